@@ -1,0 +1,3 @@
+-- What the proofs of `product` and `less` use.
+mod Columns
+mod Words

@@ -1,0 +1,88 @@
+-- The fraction in lowest terms that equals num / den, and the order of fractions. Assumes nothing.
+use Prim.Native.Nat.{ℕ, _*_, _/_, _≤_, _<_}
+use mathlib.Core.Path.{_≡_, sym, ap}
+use mathlib.Core.Bool.{Bool, true}
+use mathlib.Core.Logic.{_↔_}
+use native.Mathlib.Nat.{eq-of-mul-eq-mul-left, div-le-self, pos-of-ne-zero, mul-pos}
+use native.Mathlib.Omega.{arith}
+use lib.Dec.{ltb}
+use borrow.Author.Tests.{ltb-true, lt-ltb}
+use Rattle.fraction.specs.declared.Fraction.{Fraction}
+use Rattle.fraction.specs.Divides.{divisor-positive, quotient-is}
+use Rattle.fraction.specs.Gcd.{gcd, gcd-is, gcd-positive, Coprime, gcd-quotients, coprime-unique}
+use Rattle.fraction.specs.Rational.{Rational, _≈_, _≺_, _·_, share}
+
+-- num / den, with both parts divided by their greatest common divisor
+unfoldable pub lowestTerms : ℕ → ℕ → Fraction
+lowestTerms num den = record { num = num / gcd num den; den = den / gcd num den }
+
+-- f is the fraction in lowest terms that equals num / den
+pub record IsLowest (num den : ℕ) (f : Fraction) : Type 0 where
+  pub equal : f .num * den ≡ num * f .den
+  pub over : 0 < f .den
+  pub lowest : Coprime (f .num) (f .den)
+
+-- lowestTerms is such a fraction
+pub lowest-is : (num den : ℕ) → 0 < den → IsLowest num den (lowestTerms num den)
+unfolding lowestTerms
+lowest-is num den p = record {
+  equal = omega (arith, ap (λ (n : ℕ). num / g * n) r, ap (λ (n : ℕ). n * (den / g)) l);
+  over = divisor-positive (record { quotient = g; is = omega (arith, r) }) p;
+  lowest = gcd-quotients (num / g) (den / g) (gcd-is num den) (gcd-positive num den p) (sym l) (sym r);
+}
+  where
+    g : ℕ
+    g = gcd num den
+
+    l : g * (num / g) ≡ num
+    l = quotient-is (gcd-is num den .left)
+
+    r : g * (den / g) ≡ den
+    r = quotient-is (gcd-is num den .right)
+
+-- and the only one
+pub lowest-only : {num den : ℕ} {f : Fraction} → 0 < den → IsLowest num den f → f ≡ lowestTerms num den
+lowest-only {num} {den} {f} p h = λ i. record { num = both .0 i; den = both .1 i }
+  where
+    k : IsLowest num den (lowestTerms num den)
+    k = lowest-is num den p
+
+    both : (f .num ≡ lowestTerms num den .num) × (f .den ≡ lowestTerms num den .den)
+    both =
+        coprime-unique (h .lowest) (k .lowest) (k .over)
+        (eq-of-mul-eq-mul-left den p (f .num * lowestTerms num den .den) (lowestTerms num den .num * f .den)
+        (omega (
+          arith,
+          ap (λ (n : ℕ). n * lowestTerms num den .den) (h .equal),
+          ap (λ (n : ℕ). n * f .den) (k .equal),
+        )))
+
+-- its parts are no larger, and above zero where num is
+pub lowest-small : (num den : ℕ) → (lowestTerms num den .num ≤ num) × (lowestTerms num den .den ≤ den)
+unfolding lowestTerms
+lowest-small num den = (div-le-self num (gcd num den), div-le-self den (gcd num den))
+
+pub lowest-above-zero : {num den : ℕ} → 0 < num → 0 < den → 0 < lowestTerms num den .num
+lowest-above-zero {num} {den} p q =
+    let h = lowest-is num den q in
+    pos-of-ne-zero (λ e. omega (arith, h .equal, mul-pos p (h .over), ap (λ (n : ℕ). n * den) e))
+
+-- less exactly when the products say so
+unfoldable pub lessThan : Fraction → Fraction → Bool
+lessThan f g = ltb (f .num * g .den) (g .num * f .den)
+
+-- the rational number that a fraction is
+abbrev pub valueOf : (f : Fraction) → 0 < f .den → Rational
+valueOf f p = share (f .num) (f .den) p
+
+pub less-is : (f g : Fraction) (p : 0 < f .den) (q : 0 < g .den) → (lessThan f g ≡ true) ↔ (valueOf f p ≺ valueOf g q)
+unfolding lessThan
+less-is f g p q = (λ e. omega (arith, ltb-true (f .num * g .den) (g .num * f .den) e), λ h. lt-ltb (f .num * g .den) (g .num * f .den) (omega arith))
+
+pub lowest-value : (num den : ℕ) (p : 0 < den) → valueOf (lowestTerms num den) (lowest-is num den p .over) ≈ share num den p
+lowest-value num den p = omega (arith, lowest-is num den p .equal)
+
+-- a weight times a fraction
+pub times-value : (f : Fraction) (p : 0 < f .den) (weight : ℕ)
+    → valueOf (lowestTerms (f .num * weight) (f .den)) (lowest-is (f .num * weight) (f .den) p .over) ≈ weight · valueOf f p
+times-value f p weight = omega (arith, lowest-is (f .num * weight) (f .den) p .equal)
