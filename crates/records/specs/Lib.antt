@@ -1,0 +1,3 @@
+-- Numbers as bytes, and the records of an answer.
+pub mod Bytes
+pub mod Answer

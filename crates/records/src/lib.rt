@@ -1,0 +1,2 @@
+// Records as bytes: writing the records of an answer.
+pub mod write;

@@ -1,0 +1,16 @@
+-- By the test. Assumes nothing.
+use Rattle.table.specs.Signed.{forward}
+use borrow.Author.Tests.{lt-ltb, le-ltb}
+use Rattle.table.proofs.numbers.forward_of.Statement.{statement}
+use Rattle.table.proofs.numbers.forward_of.Tie as tie
+
+returns : tie.Need-returns
+unfolding forward
+returns c = rw (lt-ltb _ _ (c .if1 .taken))
+
+returns-2 : tie.Need-returns-2
+unfolding forward
+returns-2 c = rw (le-ltb _ _ (c .if1 .left))
+
+pub forward-of-spec : {M : Type 1} → statement M
+forward-of-spec = tie.close (tie.spec returns returns-2)

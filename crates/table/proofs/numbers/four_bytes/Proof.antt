@@ -1,0 +1,29 @@
+-- Each half is below 65,536. Assumes nothing.
+use Rattle.table.proofs.numbers.Halves.{halves}
+use native.Mathlib.Omega.{arith}
+use borrow.Author.Needs.{needs}
+use Rattle.table.proofs.numbers.four_bytes.Statement.{statement}
+use Rattle.table.proofs.numbers.four_bytes.Tie as tie
+
+two-bytes-requires : tie.Need-two-bytes-requires
+two-bytes-requires c κs = search needs
+
+add-two-bytes : tie.Need-add-two-bytes
+add-two-bytes c = search needs
+
+two-bytes-requires-2 : tie.Need-two-bytes-requires-2
+two-bytes-requires-2 c κs = search needs
+
+mul-result : tie.Need-mul-result
+mul-result c = search needs
+
+add-result : tie.Need-add-result
+add-result c = search needs
+
+returns : tie.Need-returns
+returns c = (omega (arith, halves (c .before .before .before .args .s .now) (c .before .before .before .args .at)), omega arith)
+
+pub four-bytes-spec : {M : Type 1} → statement M
+four-bytes-spec =
+    tie.close
+    (tie.spec two-bytes-requires add-two-bytes two-bytes-requires-2 mul-result add-result returns)

@@ -1,0 +1,2 @@
+-- What the proof of `read_table` uses.
+mod Going

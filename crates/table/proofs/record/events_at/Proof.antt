@@ -1,0 +1,22 @@
+-- The two amounts of the four bytes. Assumes nothing.
+use Rattle.table.specs.Record.{eventsAt}
+use borrow.Author.Needs.{needs}
+use Rattle.table.proofs.record.events_at.Statement.{statement}
+use Rattle.table.proofs.record.events_at.Tie as tie
+
+four-bytes-requires : tie.Need-four-bytes-requires
+four-bytes-requires c κs = search needs
+
+forward-of-requires : tie.Need-forward-of-requires
+forward-of-requires c κs = search needs
+
+back-of-requires : tie.Need-back-of-requires
+back-of-requires c κs = search needs
+
+returns : tie.Need-returns
+unfolding eventsAt
+returns c = rw (c .before .forward-of .ensures, c .back-of .ensures, c .before .before .four-bytes .ensures .0)
+
+pub events-at-spec : {M : Type 1} → statement M
+events-at-spec =
+    tie.close (tie.spec four-bytes-requires forward-of-requires back-of-requires returns)

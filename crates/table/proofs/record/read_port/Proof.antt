@@ -1,0 +1,56 @@
+-- By the tests, in their order. Assumes nothing.
+use Rattle.table.specs.Record.{portAt}
+use borrow.Author.Tests.{le-leb, lt-leb, eq-eqb, ne-eqb, not-true, not-false}
+use borrow.Author.Needs.{needs}
+use Rattle.table.proofs.record.read_port.Statement.{statement}
+use Rattle.table.proofs.record.read_port.Tie as tie
+
+returns : tie.Need-returns
+unfolding portAt
+returns c = rw (ne-eqb _ _ (c .if1 .taken))
+
+returns-2 : tie.Need-returns-2
+unfolding portAt
+returns-2 c = rw (eq-eqb _ _ (c .before .before .if1 .left), not-true (c .before .before .before .before .args .before .«port_may_come») (c .if2 .taken))
+
+returns-3 : tie.Need-returns-3
+unfolding portAt
+returns-3 c = rw (eq-eqb _ _ (c .before .before .before .before .if1 .left), not-false (c .before .before .before .before .before .before .args .before .«port_may_come») (c .before .before .if2 .left), le-leb _ _ (c .if3 .taken))
+
+add-parts-faulty : tie.Need-add-parts-faulty
+add-parts-faulty c = search needs
+
+parts-faulty-requires : tie.Need-parts-faulty-requires
+parts-faulty-requires c κs = search needs
+
+returns-4 : tie.Need-returns-4
+unfolding portAt
+returns-4 c = rw (eq-eqb _ _ (c .before .before .before .before .before .before .if1 .left), not-false (c .before .before .before .before .before .before .before .before .args .before .«port_may_come») (c .before .before .before .before .if2 .left), lt-leb _ _ (c .before .before .if3 .left), ← c .before .parts-faulty .ensures, c .if4 .taken)
+
+add-port-of : tie.Need-add-port-of
+add-port-of c = search needs
+
+port-of-requires : tie.Need-port-of-requires
+port-of-requires c κs = search needs
+
+add-t9 : tie.Need-add-t9
+add-t9 c = search needs
+
+returns-5 : tie.Need-returns-5
+unfolding portAt
+returns-5 c = rw (eq-eqb _ _ (c .before .before .before .before .before .before .before .if1 .left), not-false (c .before .before .before .before .before .before .before .before .before .args .before .«port_may_come») (c .before .before .before .before .before .if2 .left), lt-leb _ _ (c .before .before .before .if3 .left), ← c .before .before .parts-faulty .ensures, c .before .if4 .left, c .port-of .ensures)
+
+pub read-port-spec : {M : Type 1} → statement M
+read-port-spec =
+    tie.close
+    (tie.spec
+    returns
+    returns-2
+    returns-3
+    add-parts-faulty
+    parts-faulty-requires
+    returns-4
+    add-port-of
+    port-of-requires
+    add-t9
+    returns-5)

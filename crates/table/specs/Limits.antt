@@ -1,0 +1,65 @@
+-- The limits of a table, and what it is to be within them. Assumes nothing.
+use Prim.Native.Nat.{ℕ, _≤_, _<_}
+use mathlib.Core.Bool.{false}
+use lib.ListN.{getD}
+use Rattle.table.specs.declared.Port.{Port}
+use Rattle.table.specs.declared.Link.{Link}
+use Rattle.table.specs.declared.Table.{Table}
+
+-- at most 64 ports and 256 connections and buffers together
+abbrev pub mostPorts : ℕ
+mostPorts = 64
+
+abbrev pub mostLinks : ℕ
+mostLinks = 256
+
+-- rate and ratio parts 1 to 1,000
+abbrev pub mostPart : ℕ
+mostPart = 1000
+
+-- ε within ±10,000,000; δ within ±1,000
+abbrev pub mostTicks : ℕ
+mostTicks = 10000000
+
+abbrev pub mostEvents : ℕ
+mostEvents = 1000
+
+pub record PartFits (x : ℕ) : Type 0 where
+  pub least : 0 < x
+  pub most : x ≤ mostPart
+
+pub record PortFits (p : Port) : Type 0 where
+  pub num : PartFits (p .num)
+  pub den : PartFits (p .den)
+
+-- a link between ports below a number
+pub record LinkFits (ports : ℕ) (l : Link) : Type 0 where
+  pub from : l .from < ports
+  pub to : l .to < ports
+  pub num : PartFits (l .num)
+  pub den : PartFits (l .den)
+  pub ticks-forward : l .ticks .0 ≤ mostTicks
+  pub ticks-back : l .ticks .1 ≤ mostTicks
+  pub events-forward : l .events .0 ≤ mostEvents
+  pub events-back : l .events .1 ≤ mostEvents
+
+-- what fills the arrays of a table behind its ports and links
+abbrev pub noPort : Port
+noPort = record { num = 0; den = 0 }
+
+abbrev pub noLink : Link
+noLink = record { from = 0; to = 0; num = 0; den = 0; ticks = (0, 0); events = (0, 0); buffer = false }
+
+abbrev pub port : Table → ℕ → Port
+port t p = getD (t .ports) p noPort
+
+abbrev pub link : Table → ℕ → Link
+link t k = getD (t .links) k noLink
+
+-- what holds of every table that is read with number 0
+pub record WellFormed (t : Table) : Type 0 where
+  pub some-port : 0 < t .«port_count»
+  pub few-ports : t .«port_count» ≤ mostPorts
+  pub few-links : t .«link_count» ≤ mostLinks
+  pub ports : (p : ℕ) → p < t .«port_count» → PortFits (port t p)
+  pub links : (k : ℕ) → k < t .«link_count» → LinkFits (t .«port_count») (link t k)

@@ -1,0 +1,225 @@
+// Reads one record of a table.
+ghost use mathlib.Core.Path.{_≡_};
+ghost use Prim.Native.Nat.{_+_, _≤_, _<_};
+ghost use lib.ListN.{length};
+ghost use Rattle.table.specs.Record.{
+  lengthFaulty,
+  partFaulty,
+  partsFaulty,
+  endsFaulty,
+  ticksAt,
+  eventsAt,
+  amountFaulty,
+  portOf,
+  linkOf,
+  portAt,
+  linkAt,
+  kindAt,
+  recordAt,
+};
+use crate::Events;
+use crate::Link;
+use crate::Port;
+use crate::Ticks;
+use crate::limits;
+use crate::numbers;
+
+// What stands in the input before a record.
+pub struct Before {
+    // The ports and links so far: for the limits.
+    pub ports: usize,
+    pub links: usize,
+    // From and to name the ports below this number.
+    pub named: usize,
+    pub port_may_come: bool,
+}
+
+// The record at a place, with the place behind it.
+pub enum Read {
+    PortRecord(Port, usize),
+    LinkRecord(Link, usize),
+    Refused(u64),
+    End,
+}
+
+fn length_faulty(s: &[u8], at: usize) -> bool
+    requires { ⌜ at < length (now s) ⌝ }
+    ensures { λ r. ⌜ r ≡ lengthFaulty (now (s .entry)) at ⌝ }
+{
+    let left = s.len() - at;
+    if left < 2 {
+        return true;
+    }
+    let n = numbers::two_bytes(s, at) as usize;
+    if n < 2 {
+        return true;
+    }
+    left - 2 < n
+}
+
+fn part_faulty(x: u64) -> bool
+    ensures { λ r. ⌜ r ≡ partFaulty x ⌝ }
+{
+    if x == 0 {
+        return true;
+    }
+    limits::PART < x
+}
+
+// The two parts of a rate or ratio.
+fn parts_faulty(s: &[u8], at: usize) -> bool
+    requires { ⌜ at + 4 ≤ length (now s) ⌝ }
+    ensures { λ r. ⌜ r ≡ partsFaulty (now (s .entry)) at ⌝ }
+{
+    if part_faulty(numbers::two_bytes(s, at)) {
+        return true;
+    }
+    part_faulty(numbers::two_bytes(s, at + 2))
+}
+
+// From and to.
+fn ends_faulty(s: &[u8], at: usize, named: usize) -> bool
+    requires { ⌜ at + 4 ≤ length (now s) ⌝ }
+    ensures { λ r. ⌜ r ≡ endsFaulty (now (s .entry)) at named ⌝ }
+{
+    if named as u64 <= numbers::two_bytes(s, at) {
+        return true;
+    }
+    named as u64 <= numbers::two_bytes(s, at + 2)
+}
+
+fn ticks_at(s: &[u8], at: usize) -> Ticks
+    requires { ⌜ at + 4 ≤ length (now s) ⌝ }
+    ensures { λ r. ⌜ r ≡ ticksAt (now (s .entry)) at ⌝ }
+{
+    let v = numbers::four_bytes(s, at);
+    Ticks(numbers::forward_of(v), numbers::back_of(v))
+}
+
+// An amount with a sign is above most, or below its negation.
+fn amount_faulty(most: u64, forward: u64, back: u64) -> bool
+    ensures { λ r. ⌜ r ≡ amountFaulty most forward back ⌝ }
+{
+    if most < forward {
+        return true;
+    }
+    most < back
+}
+
+fn events_at(s: &[u8], at: usize) -> Events
+    requires { ⌜ at + 4 ≤ length (now s) ⌝ }
+    ensures { λ r. ⌜ r ≡ eventsAt (now (s .entry)) at ⌝ }
+{
+    let v = numbers::four_bytes(s, at);
+    Events(numbers::forward_of(v), numbers::back_of(v))
+}
+
+fn port_of(s: &[u8], at: usize) -> Port
+    requires { ⌜ at + 4 ≤ length (now s) ⌝ }
+    ensures { λ r. ⌜ r ≡ portOf (now (s .entry)) at ⌝ }
+{
+    let num = numbers::two_bytes(s, at) as u16;
+    let den = numbers::two_bytes(s, at + 2) as u16;
+    Port { num, den }
+}
+
+fn link_of(s: &[u8], at: usize, ticks: Ticks, events: Events, buffer: bool) -> Link
+    requires { ⌜ at + 8 ≤ length (now s) ⌝ }
+    ensures { λ r. ⌜ r ≡ linkOf (now (s .entry)) at ticks events buffer ⌝ }
+{
+    let from = numbers::two_bytes(s, at) as u16;
+    let to = numbers::two_bytes(s, at + 2) as u16;
+    let num = numbers::two_bytes(s, at + 4) as u16;
+    let den = numbers::two_bytes(s, at + 6) as u16;
+    Link {
+        from,
+        to,
+        num,
+        den,
+        ticks,
+        events,
+        buffer,
+    }
+}
+
+// A port record whose length is right or not, at its place.
+fn read_port(s: &[u8], at: usize, n: usize, before: Before) -> Read
+    requires { ⌜ at + 2 + n ≤ length (now s) ⌝ }
+    ensures { λ r. ⌜ r ≡ portAt (now (s .entry)) at n before ⌝ }
+{
+    if n != 6 {
+        return Read::Refused(4);
+    }
+    if !before.port_may_come {
+        return Read::Refused(5);
+    }
+    if limits::PORTS <= before.ports {
+        return Read::Refused(6);
+    }
+    if parts_faulty(s, at + 4) {
+        return Read::Refused(8);
+    }
+    Read::PortRecord(port_of(s, at + 4), at + 8)
+}
+
+// A connection or buffer with these events, at its place; next is the place behind it.
+fn read_link(s: &[u8], at: usize, before: Before, events: Events, buffer: bool, next: usize) -> Read
+    requires { ⌜ at + 16 ≤ length (now s) ⌝ }
+    ensures { λ r. ⌜ r ≡ linkAt (now (s .entry)) at before events buffer next ⌝ }
+{
+    if limits::LINKS <= before.links {
+        return Read::Refused(7);
+    }
+    if ends_faulty(s, at + 4, before.named) {
+        return Read::Refused(9);
+    }
+    if parts_faulty(s, at + 8) {
+        return Read::Refused(10);
+    }
+    let ticks = ticks_at(s, at + 12);
+    if amount_faulty(limits::TICKS, ticks.0, ticks.1) {
+        return Read::Refused(11);
+    }
+    if amount_faulty(limits::EVENTS, events.0, events.1) {
+        return Read::Refused(11);
+    }
+    Read::LinkRecord(link_of(s, at + 4, ticks, events, buffer), next)
+}
+
+// The record of a kind, whose length n does not pass the end of the table.
+fn read_kind(s: &[u8], at: usize, n: usize, kind: u64, before: Before) -> Read
+    requires { ⌜ at + 2 + n ≤ length (now s) ⌝ }
+    ensures { λ r. ⌜ r ≡ kindAt (now (s .entry)) at n kind before ⌝ }
+{
+    if kind == 1 {
+        return read_port(s, at, n, before);
+    }
+    if kind == 2 {
+        if n != 18 {
+            return Read::Refused(4);
+        }
+        return read_link(s, at, before, events_at(s, at + 16), false, at + 20);
+    }
+    if kind == 3 {
+        if n != 14 {
+            return Read::Refused(4);
+        }
+        return read_link(s, at, before, Events(0, 0), true, at + 16);
+    }
+    Read::Refused(3)
+}
+
+// The record at a place, tried for 2 to 11 in order.
+pub fn read_record(s: &[u8], at: usize, before: Before) -> Read
+    ensures { λ r. ⌜ r ≡ recordAt (now (s .entry)) at before ⌝ }
+{
+    if s.len() <= at {
+        return Read::End;
+    }
+    if length_faulty(s, at) {
+        return Read::Refused(2);
+    }
+    let n = numbers::two_bytes(s, at) as usize;
+    let kind = numbers::two_bytes(s, at + 2);
+    read_kind(s, at, n, kind, before)
+}

@@ -1,0 +1,46 @@
+"""Models as Python values, and their tables as bytes (document 01)."""
+import struct
+from dataclasses import dataclass, field
+from typing import List, Optional
+
+
+@dataclass
+class Port:
+    num: int = 1
+    den: int = 1
+
+
+@dataclass
+class Link:
+    """A connection, or a buffer, whose events are None."""
+    start: int
+    end: int
+    num: int = 1
+    den: int = 1
+    ticks: int = 0
+    events: Optional[int] = 0
+
+
+@dataclass
+class Model:
+    ports: List[Port] = field(default_factory=list)
+    links: List[Link] = field(default_factory=list)
+
+
+def record(kind, body):
+    return struct.pack('<HH', len(body) + 2, kind) + body
+
+
+def port_bytes(port):
+    return record(1, struct.pack('<HH', port.num, port.den))
+
+
+def link_bytes(link):
+    head = struct.pack('<HHHHi', link.start, link.end, link.num, link.den, link.ticks)
+    if link.events is None:
+        return record(3, head)
+    return record(2, head + struct.pack('<i', link.events))
+
+
+def table_bytes(model):
+    return b''.join(map(port_bytes, model.ports)) + b''.join(map(link_bytes, model.links))
