@@ -1,0 +1,3 @@
+-- What the proof of `sums_of` uses. Assumes nothing.
+mod Total
+mod Summed

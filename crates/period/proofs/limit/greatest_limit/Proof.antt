@@ -1,0 +1,81 @@
+-- `period::limit::greatest_limit` meets its contract. The invariant: greatest is the rate limit of port, the greatest of the first i ports. The measure is how many ports are left. Assumes nothing.
+use mathlib.Core.Logic.{⊎-elim}
+use Prim.Native.Nat.{_-_}
+use lib.ListN.{length}
+use borrow.Author.Needs.{needs}
+use Rattle.period.proofs.limit.Leading.{Leading, has-limit, leading-over, leading-first, leading-new, leading-kept, leading-last}
+use Rattle.period.proofs.limit.greatest_limit.Statement.{statement}
+use Rattle.period.proofs.limit.greatest_limit.Tie as tie
+
+abbrev Inv-loop : tie.InvT-loop
+Inv-loop ports limits port₀ greatest₀ i₀ port greatest i = Leading ports limits i port greatest
+
+abbrev μ-loop : tie.MeasureT-loop
+μ-loop ports limits port₀ greatest₀ i₀ port greatest i = length ports - i
+
+shared-slice-read-port : tie.Need-shared-slice-read-port Inv-loop μ-loop
+shared-slice-read-port c = search needs
+
+limit-of-requires : tie.Need-limit-of-requires Inv-loop μ-loop
+limit-of-requires c κs = search (has-limit, needs)
+
+loop-holds : tie.Need-loop-holds Inv-loop μ-loop
+loop-holds c = search (leading-first, needs)
+
+mul-limit-of : tie.Need-mul-limit-of Inv-loop μ-loop
+mul-limit-of c = search needs
+
+shared-slice-read-limit-of : tie.Need-shared-slice-read-limit-of Inv-loop μ-loop
+shared-slice-read-limit-of c = search needs
+
+limit-of-requires-2 : tie.Need-limit-of-requires-2 Inv-loop μ-loop
+limit-of-requires-2 c κs = search (has-limit, needs)
+
+less-requires : tie.Need-less-requires Inv-loop μ-loop
+less-requires c κs = search needs
+
+mul-port : tie.Need-mul-port Inv-loop μ-loop
+mul-port c = search needs
+
+shared-slice-read-port-2 : tie.Need-shared-slice-read-port-2 Inv-loop μ-loop
+shared-slice-read-port-2 c = search needs
+
+add-i : tie.Need-add-i Inv-loop μ-loop
+add-i c = search needs
+
+loop-less : tie.Need-loop-less Inv-loop μ-loop
+loop-less c = search needs
+
+loop-again : tie.Need-loop-again Inv-loop μ-loop
+loop-again c =
+    ⊎-elim
+    (λ w. rw (w .2, w .3) (leading-new (c .before .before .before .before .before .before .before .before .before .before .pre) (c .before .before .before .before .before .loop .inv) (c .before .before .before .before .loop-test .taken) (c .before .before .limit-of2 .ensures) (c .before .less .ensures) (w .0 .taken)))
+    (λ w. rw (w .1, w .2) (leading-kept (c .before .before .before .before .before .before .before .before .before .before .pre) (c .before .before .before .before .before .loop .inv) (c .before .before .before .before .loop-test .taken) (c .before .before .limit-of2 .ensures) (c .before .less .ensures) (w .0 .left)))
+    (c .if1 .came)
+
+reduced-requires : tie.Need-reduced-requires Inv-loop μ-loop
+reduced-requires c κs = search (leading-over, needs)
+
+returns : tie.Need-returns Inv-loop μ-loop
+returns c = search (leading-last, needs)
+
+pub greatest-limit-spec : {M : Type 1} → statement M
+greatest-limit-spec =
+    tie.close
+    (tie.spec
+    Inv-loop
+    μ-loop
+    shared-slice-read-port
+    limit-of-requires
+    loop-holds
+    mul-limit-of
+    shared-slice-read-limit-of
+    limit-of-requires-2
+    less-requires
+    mul-port
+    shared-slice-read-port-2
+    add-i
+    loop-less
+    loop-again
+    reduced-requires
+    returns)

@@ -1,0 +1,3 @@
+-- What the proofs of `delay` and `price` use. Assumes nothing.
+mod Bounds
+mod Filled

@@ -1,0 +1,14 @@
+-- Periods of a component: the limits, the search, and what it ends with.
+pub mod Taken
+pub mod Periods
+pub mod Limits
+pub mod Component
+pub mod Prices
+pub mod Alike
+pub mod PricesLaws
+pub mod LimitOf
+pub mod Greatest
+pub mod Sums
+pub mod Search
+pub mod Try
+pub mod SearchLaws

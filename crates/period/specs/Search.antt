@@ -1,0 +1,76 @@
+-- What the search for the least period of a component ends with. Assumes nothing.
+use Prim.Native.Nat.{ℕ, suc, _+_, _*_, _/_, _≤_, _<_}
+use mathlib.Core.Path.{_≡_}
+use mathlib.Core.Logic.{_≢_}
+use mathlib.Core.Bool.{true, false}
+use mathlib.Core.List.{List}
+use lib.ListN.{length, getD}
+use Rattle.fraction.specs.Gcd.{Coprime}
+use Rattle.rounds.specs.Graph.{Graph, LeastStarts}
+use Rattle.period.specs.Periods.{Serves, RateLimit, CycleLimit, Blocks, Period}
+use Rattle.period.specs.Component.{graphOf}
+use Rattle.period.specs.Prices.{pricesOf}
+use Rattle.rounds.specs.Starts.{starts}
+use Rattle.rounds.specs.Back.{edgesOf}
+use Rattle.period.specs.declared.search.Cycle.{Cycle}
+use Rattle.period.specs.declared.search.Floor.{Floor}
+use Rattle.period.specs.declared.search.Floor.the-variants.{Rate, Lower}
+use Rattle.period.specs.declared.search.Search.{Search}
+
+-- the numbers of a cycle's edges, in walking order
+abbrev pub cycleOf : Cycle → List ℕ
+cycleOf c = edgesOf (c .steps) (c .part)
+
+-- the part lies within the steps
+pub record WithinSteps (c : Cycle) : Type 0 where
+  pub ordered : c .part .first ≤ c .part .last
+  pub within : c .part .last ≤ 64
+  pub long : length (c .steps) ≡ 64
+
+-- the record of document 01 that shows a floor: kind 20, a port, or kind 19, a cycle
+abbrev pub kindOf : Floor → ℕ
+kindOf (Rate p) = 20
+kindOf Lower = 19
+
+-- the limit that a/b is: the rate limit of a port, or the lower limit of the cycle
+abbrev pub Shown : Graph → Floor → Cycle → ℕ → ℕ → Type 0
+Shown g (Rate p) c a b = RateLimit g p a b
+Shown g Lower c a b = CycleLimit g (cycleOf c) a b
+
+-- the rounds run at a/b: each but the last changed something, and the starts are those that the last left as they were
+pub record RoundsRun (cs starts′ : List ℕ) (n rounds : ℕ) : Type 0 where
+  pub changing : ℕ
+  pub is : rounds ≡ suc changing
+  pub within : rounds ≤ n
+  pub moved : (q : ℕ) → q < changing → starts cs (suc q) ≢ starts cs q
+  pub still : starts cs (suc changing) ≡ starts cs changing
+  pub made : starts′ ≡ starts cs changing
+
+-- room for a row of 64 starts for the zeros and each round, for the prices of the edges, and for 64 starts
+pub record Room (ports edges rows costs starts : List ℕ) : Type 0 where
+  pub rows-room : 64 * length ports + 64 ≤ length rows
+  pub costs-room : 4 * (length edges / 6) ≤ length costs
+  pub starts-room : length starts ≡ 64
+
+module _ (ports limits edges : List ℕ) where
+  -- settled: the period, which limit it is, and the least starts
+  pub record FoundPeriod (r : Search) (starts′ : List ℕ) : Type 0 where
+    pub period : Period (graphOf ports limits edges) (r .period .num) (r .period .den)
+    pub shown : Shown (graphOf ports limits edges) (r .floor) (r .limit) (r .period .num) (r .period .den)
+    pub least : LeastStarts (graphOf ports limits edges) (r .period .num) (r .period .den) (λ p. getD starts′ p 0)
+    pub rounds : RoundsRun (pricesOf edges (r .period .num) (r .period .den)) starts′ (length ports) (r .rounds)
+
+  -- blocked: a floor that no smaller a/b serves, and a cycle that is positive there and above; the starts are unchanged
+  pub record FoundBlock (r : Search) (starts₀ starts′ : List ℕ) : Type 0 where
+    pub above-zero : 0 < r .period .num
+    pub over : 0 < r .period .den
+    pub lowest : Coprime (r .period .num) (r .period .den)
+    pub shown : Shown (graphOf ports limits edges) (r .floor) (r .limit) (r .period .num) (r .period .den)
+    pub low : (a b : ℕ) → Serves (graphOf ports limits edges) a b → 0 < b → r .period .num * b ≤ a * r .period .den
+    pub block : Blocks (graphOf ports limits edges) (cycleOf (r .block)) (r .period .num) (r .period .den)
+    pub rounds : r .rounds ≡ length ports
+    pub unchanged : starts′ ≡ starts₀
+
+  pub record Ends (r : Search) (starts₀ starts′ : List ℕ) : Type 0 where
+    pub settled : r .settled ≡ true → FoundPeriod r starts′
+    pub blocked : r .settled ≡ false → FoundBlock r starts₀ starts′

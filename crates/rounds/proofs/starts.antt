@@ -1,0 +1,6 @@
+-- What the proofs of the rounds use.
+mod Copied
+mod Relaxed
+mod Partly
+mod Buffer
+mod Going

@@ -1,0 +1,118 @@
+// Rounds of starts from zero over edges at one a/b.
+ghost use mathlib.Core.Path.{_≡_};
+ghost use Prim.Native.Nat.{_+_, _*_, _≤_};
+ghost use lib.ListN.{length, replicate};
+ghost use Rattle.rounds.specs.Starts.{Fitting, Ran, row};
+ghost use Rattle.rounds.specs.Relax.{Ready, Relaxes, Low, Round};
+ghost use Rattle.rounds.specs.Advance.{put, Ahead, Advanced};
+
+// The ports of a row, and the answer of a round that raised none.
+const WIDTH: usize = 64;
+
+pub enum Outcome {
+    // So many rounds changed something, and the next changed nothing.
+    Settled(usize),
+    // Each round that was allowed changed something; the last raised this port.
+    Unsettled(usize),
+}
+
+// One edge: raises the start of its receiver to what it asks, from the starts before the round. Says whether it did.
+fn relax(old: &[u64], new: &mut [u64], costs: &[u64], k: usize) -> bool
+    requires { ⌜ Ready (now costs) (now old) (now new) k ⌝ }
+    ensures { λ b. ⌜ Relaxes (now (costs .entry)) (now (old .entry)) k (now (new .entry)) (now (new .exit)) b ⌝ }
+{
+    let at = 4 * k;
+    let from = costs[at] as usize;
+    let to = costs[at + 1] as usize;
+    let reach = old[from] + costs[at + 2];
+    let loss = costs[at + 3];
+    if reach <= loss {
+        return false;
+    }
+    let start = reach - loss;
+    if start <= new[to] {
+        return false;
+    }
+    new[to] = start;
+    true
+}
+
+fn copy(src: &[u64], dst: &mut [u64])
+    requires { ⌜ length (now dst) ≡ length (now src) ⌝ }
+    ensures { λ _. ⌜ now (dst .exit) ≡ now (src .entry) ⌝ }
+{
+    let mut i: usize = 0;
+    while i < src.len() {
+        dst[i] = src[i];
+        i = i + 1;
+    }
+}
+
+// One round over every edge, each from the starts old. Answers a port that it raised, or WIDTH.
+fn round(old: &[u64], new: &mut [u64], costs: &[u64]) -> usize
+    requires { ⌜ Low (now costs) (now old) ⌝ }
+    requires { ⌜ length (now new) ≡ 64 ⌝ }
+    ensures { λ j. ⌜ Round (now (costs .entry)) (now (old .entry)) (now (new .exit)) j ⌝ }
+{
+    copy(old, new);
+    let mut grew = WIDTH;
+    let edges = costs.len() / 4;
+    let mut k: usize = 0;
+    while k < edges {
+        if relax(old, new, costs, k) {
+            grew = costs[4 * k + 1] as usize;
+        }
+        k = k + 1;
+    }
+    grew
+}
+
+// A round from row r into row r + 1.
+fn advance(rows: &mut [u64], r: usize, costs: &[u64]) -> usize
+    requires { ⌜ Ahead (now costs) (now rows) r ⌝ }
+    ensures { λ j. ⌜ Advanced (now (costs .entry)) r (now (rows .entry)) (now (rows .exit)) j ⌝ }
+{
+    let at = WIDTH * r;
+    let next = at + WIDTH;
+    let end = next + WIDTH;
+    let mut old = [0u64; 64];
+    copy(&rows[at..next], &mut old);
+    round(&old, &mut rows[next..end], costs)
+}
+
+fn clear(rows: &mut [u64])
+    requires { ⌜ 64 ≤ length (now rows) ⌝ }
+    ensures { λ _. ⌜ now (rows .exit) ≡ put (now (rows .entry)) 0 (replicate 64 0) ⌝ }
+{
+    let zero = [0u64; 64];
+    copy(&zero, &mut rows[..WIDTH]);
+}
+
+// Rounds from zero until one changes nothing, at most n. Row r of rows holds the starts after r rounds.
+pub fn settle(rows: &mut [u64], n: usize, costs: &[u64]) -> Outcome
+    requires { ⌜ Fitting (now costs) (now rows) n ⌝ }
+    ensures { λ o. ⌜ Ran (now (costs .entry)) (now (rows .exit)) n o ⌝ }
+    ensures { λ o. ⌜ length (now (rows .exit)) ≡ length (now (rows .entry)) ⌝ }
+{
+    clear(rows);
+    let mut grew = WIDTH;
+    let mut r: usize = 0;
+    while r < n {
+        grew = advance(rows, r, costs);
+        if grew == WIDTH {
+            return Outcome::Settled(r);
+        }
+        r = r + 1;
+    }
+    Outcome::Unsettled(grew)
+}
+
+// Copies row r.
+pub fn row_into(rows: &[u64], r: usize, starts: &mut [u64])
+    requires { ⌜ (64 * r + 64 ≤ length (now rows)) × (length (now starts) ≡ 64) ⌝ }
+    ensures { λ _. ⌜ now (starts .exit) ≡ row (now (rows .entry)) r ⌝ }
+{
+    let first = WIDTH * r;
+    let last = first + WIDTH;
+    copy(&rows[first..last], starts);
+}
