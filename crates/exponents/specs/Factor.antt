@@ -1,0 +1,30 @@
+-- A prime factor of a number up to 1,000. Assumes nothing.
+use Prim.Native.Nat.{ℕ, _*_, _/_, _≤_, _<_}
+use mathlib.Core.Path.{_≡_}
+use native.Mathlib.Omega.{arith}
+use Rattle.fraction.specs.Divides.{divides-≤, quotient-is}
+use Rattle.fraction.specs.Prime.{Least, DivisorAboveOne, least-divisor-prime}
+use Rattle.exponents.specs.Divisors.{FromTwo}
+use Rattle.exponents.specs.Primes.{primeAt, placeOf, Place, prime-place}
+
+-- p is a prime up to 1,000, its place is i, and it divides n
+pub record IsFactor (n p i : ℕ) : Type 0 where
+  pub low : 2 ≤ p
+  pub high : p ≤ 1000
+  pub whole : p * (n / p) ≡ n
+  pub below : i < 168
+  pub prime : primeAt i ≡ p
+
+pub divisor-high : {n p : ℕ} → FromTwo n → Least (DivisorAboveOne n) p → p ≤ 1000
+divisor-high h l = omega (arith, h .low, h .high, divides-≤ (l .holds .divides) (omega (arith, h .low)))
+
+pub divisor-factor : {n p i : ℕ} → FromTwo n → Least (DivisorAboveOne n) p → i ≡ placeOf p → IsFactor n p i
+divisor-factor {n} {p} {i} h l e =
+    let place : Place p i = rw e (prime-place (least-divisor-prime l) (divisor-high h l)) in
+    record {
+      low = l .holds .above-one;
+      high = divisor-high h l;
+      whole = quotient-is (l .holds .divides);
+      below = place .below;
+      prime = place .is;
+    }

@@ -1,0 +1,3 @@
+-- What the proofs on agreement use.
+mod Compared
+mod Scanned

@@ -1,0 +1,102 @@
+-- A pass over the links that is under way: what the next link asks and does. Assumes nothing.
+use Prim.Native.Nat.{ℕ, _+_, _≤_, _<_}
+use mathlib.Core.Path.{_≡_, refl, sym, ap}
+use mathlib.Core.Logic.{⊎-elim, inl, inr}
+use mathlib.Core.List.{List}
+use native.Mathlib.Nat.{le-refl}
+use native.Mathlib.Omega.{arith}
+use borrow.Author.Count.{below-more}
+use Rattle.table.specs.Limits.{WellFormed, PartFits}
+use Rattle.table.specs.declared.Table.{Table}
+use Rattle.ways.specs.Model.{from, to, num, den}
+use Rattle.forest.specs.Spreading.{Spreading, Followable, Unchanged, Followed, Closed, Passed}
+use Rattle.forest.specs.declared.spanning.Forest.{Forest}
+use Rattle.forest.proofs.spanning.Numbers.{numbered-few}
+use Rattle.forest.proofs.spanning.Starting.{near-more}
+use Rattle.forest.proofs.spanning.Extending.{LinkEnds, extended-spreading}
+
+-- ---- one link from one end to the other
+module _ {f f′ : Forest} {rows rows′ : List (List ℕ)} {p q k times by : ℕ} (x : Followed f rows p q k times by f′ rows′) where
+  followed-grown : f .count ≤ f′ .count
+  followed-grown = ⊎-elim (λ e. rw (e .made) (omega arith)) (λ u. rw (u .same) (le-refl (f .count))) (x .case)
+
+  -- where no port was added
+  followed-same : f′ .count ≡ f .count → Unchanged f rows p q f′ rows′
+  followed-same h = ⊎-elim (λ e. absurd (omega (arith, ap (λ (g : Forest). g .count) (e .made)))) (λ u. u) (x .case)
+
+  followed-spreading : {t : Table} → LinkEnds t k p q times by → Spreading t f rows → Spreading t f′ rows′
+  followed-spreading l s = ⊎-elim (λ e. extended-spreading s l e) (λ u. rw (u .same, u .rows-same) s) (x .case)
+
+module _ {t : Table} where
+  pub passed-none : {f : Forest} {rows : List (List ℕ)} → Spreading t f rows → Passed t 0 f f rows
+  passed-none s = record {
+    within = omega arith;
+    spreading = s;
+    grown = omega arith;
+    closed = λ _. record { along = λ k h. absurd (omega arith); against = λ k h. absurd (omega arith) };
+  }
+
+  pub passed-all : {k : ℕ} {f f′ : Forest} {rows : List (List ℕ)} → Passed t k f f′ rows → t .«link_count» ≤ k → Passed t (t .«link_count») f f′ rows
+  passed-all {k} p h = let e : k ≡ t .«link_count» = omega arith in rw e at p
+
+  module _ (formed : WellFormed t) {k : ℕ} (below : k < t .«link_count») where
+    forth : LinkEnds t k (from t k) (to t k) (den t k) (num t k)
+    forth = record {
+      a-link = record { below = below };
+      one = record { below = formed .links k below .from };
+      one-below = omega (arith, formed .links k below .from, formed .few-ports);
+      other-below = omega (arith, formed .links k below .to, formed .few-ports);
+      ends = inr (refl, refl);
+      fits = λ rows e. record { fits = e };
+    }
+
+    back : LinkEnds t k (to t k) (from t k) (num t k) (den t k)
+    back = record {
+      a-link = record { below = below };
+      one = record { below = formed .links k below .to };
+      one-below = omega (arith, formed .links k below .to, formed .few-ports);
+      other-below = omega (arith, formed .links k below .from, formed .few-ports);
+      ends = inl (refl, refl);
+      fits = λ rows e. record { fits = sym e };
+    }
+
+    module _ {f : Forest} {rows : List (List ℕ)} (s : Spreading t f rows) where
+      followable : {p q times by : ℕ} → LinkEnds t k p q times by → PartFits times → PartFits by → Followable f rows p q times by
+      followable {p} l a b = record {
+        few = numbered-few (s .numbered);
+        one = l .one-below;
+        other = l .other-below;
+        times-fits = a;
+        by-fits = b;
+        near = near-more (s .near p (l .one-below)) (omega (arith, numbered-few (s .numbered), s .numbered .within p));
+      }
+
+      pub follow-forth : Followable f rows (from t k) (to t k) (den t k) (num t k)
+      follow-forth = followable forth (formed .links k below .den) (formed .links k below .num)
+
+      pub follow-back : Followable f rows (to t k) (from t k) (num t k) (den t k)
+      follow-back = followable back (formed .links k below .num) (formed .links k below .den)
+
+    module _ {f f₁ : Forest} {rows rows₁ : List (List ℕ)} (x : Followed f rows (from t k) (to t k) k (den t k) (num t k) f₁ rows₁) where
+      pub spreading-forth : Spreading t f rows → Spreading t f₁ rows₁
+      spreading-forth s = followed-spreading x forth s
+
+      module _ {f₂ : Forest} {rows₂ : List (List ℕ)} (y : Followed f₁ rows₁ (to t k) (from t k) k (num t k) (den t k) f₂ rows₂) where
+        -- neither way added a port
+        closed-on : {f₀ : Forest} → Passed t k f₀ f rows → f₂ .count ≡ f₀ .count → Closed t (k + 1) f₂
+        closed-on {f₀} p e =
+            let b = followed-same y (omega (arith, followed-grown x, followed-grown y, p .grown)) in
+            let a = followed-same x (omega (arith, followed-grown x, followed-grown y, p .grown)) in
+            let c = p .closed (omega (arith, followed-grown x, followed-grown y, p .grown)) in
+            rw (b .same, a .same) (record {
+              along = below-more _ k (c .along) (a .done);
+              against = below-more _ k (c .against) (rw (a .same) at (b .done));
+            })
+
+        pub passed-on : {f₀ : Forest} → Passed t k f₀ f rows → Passed t (k + 1) f₀ f₂ rows₂
+        passed-on p = record {
+          within = omega arith;
+          spreading = followed-spreading y back (spreading-forth (p .spreading));
+          grown = omega (arith, followed-grown x, followed-grown y, p .grown);
+          closed = closed-on p;
+        }

@@ -1,0 +1,2 @@
+-- What the proof of `ratios_of` uses.
+mod Decided

@@ -1,0 +1,58 @@
+-- A pass that is under way: what the next link does. Assumes nothing.
+use Prim.Native.Nat.{ℕ, _+_, _≤_, _<_}
+use mathlib.Core.Bool.{Bool, true, false, true≢false, false≢true}
+use mathlib.Core.Path.{_≡_}
+use mathlib.Core.Logic.{⊎-elim}
+use mathlib.Core.List.{List}
+use native.Mathlib.Omega.{arith}
+use borrow.Author.Count.{below-more}
+use Rattle.table.specs.Limits.{WellFormed}
+use Rattle.table.specs.declared.Table.{Table}
+use Rattle.rounds.specs.Lists.{sum}
+use Rattle.ways.specs.Model.{IsLink, from, to}
+use Rattle.ways.specs.WayLaws.{joined-sym, linked}
+use Rattle.ways.specs.Passes.{Both, Levelled, Sound, Passed}
+use Rattle.ways.proofs.components.Lowering.{sum-lowered, sound-lowered}
+
+module _ {t : Table} where
+  pub passed-none : {l : List ℕ} → Sound t l → Passed t 0 l l false
+  passed-none s = record {
+    within = omega arith;
+    sound = s;
+    most = omega arith;
+    less = λ e. absurd (false≢true e);
+    even = λ _. record { ends = λ j h. absurd (omega arith) };
+  }
+
+  pub passed-all : {k : ℕ} {l l′ : List ℕ} {r : Bool} → Passed t k l l′ r → t .«link_count» ≤ k → Passed t (t .«link_count») l l′ r
+  passed-all {k} p h = let e : k ≡ t .«link_count» = omega arith in rw e at p
+
+  module _ (formed : WellFormed t) {k : ℕ} (below : k < t .«link_count») where
+    -- the ends of link k have labels
+    pub passed-both : Both (from t k) (to t k)
+    passed-both = record { one = omega (arith, formed .links k below .from); other = omega (arith, formed .links k below .to) }
+
+    module _ {l l′ l″ : List ℕ} {r b : Bool} (p : Passed t k l l′ r) (x : Levelled l′ (from t k) (to t k) l″ b) where
+      -- link k lowered a label
+      pub passed-on : b ≡ true → Passed t (k + 1) l l″ true
+      passed-on e =
+          let i : IsLink t k = record { below = below } in
+          let turned : Both (to t k) (from t k) = record { one = passed-both .other; other = passed-both .one } in
+          let fewer : sum (λ v. v) l″ < sum (λ v. v) l′ = ⊎-elim sum-lowered sum-lowered (x .lowered e) in
+          record {
+            within = omega arith;
+            sound = ⊎-elim (sound-lowered (p .sound) (linked i) passed-both) (sound-lowered (p .sound) (joined-sym (linked i)) turned) (x .lowered e);
+            most = omega (arith, p .most);
+            less = λ _. omega (arith, p .most);
+            even = λ d. absurd (true≢false d);
+          }
+
+      -- its ends had the same label
+      pub passed-off : b ≡ false → Passed t (k + 1) l l″ r
+      passed-off e = rw (x .same e) (record {
+        within = omega arith;
+        sound = p .sound;
+        most = p .most;
+        less = p .less;
+        even = λ d. record { ends = below-more _ k (p .even d .ends) (x .equal e) };
+      })

@@ -1,0 +1,2 @@
+// The components of a table: ports joined by links, direction ignored.
+pub mod components;
