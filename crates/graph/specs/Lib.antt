@@ -1,4 +1,3 @@
--- The weights of a table, and what its ratios come to.
-pub mod LeastRows
-pub mod Weighed
-pub mod Ratios
+-- What the analysis of a table promises, and what timing its components does.
+pub mod Timed
+pub mod Analysis

@@ -1,3 +1,3 @@
-// Ratios and weights of a table: numbers 13 and 14.
-pub mod ratios;
-pub mod weights;
+// The analysis of a table: a number and records for every byte string and every answer buffer.
+pub mod analysis;
+mod timing;

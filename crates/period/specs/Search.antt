@@ -8,8 +8,9 @@ use lib.ListN.{length, getD}
 use Rattle.fraction.specs.Gcd.{Coprime}
 use Rattle.rounds.specs.Graph.{Graph, LeastStarts}
 use Rattle.period.specs.Periods.{Serves, RateLimit, CycleLimit, Blocks, Period}
-use Rattle.period.specs.Component.{graphOf}
+use Rattle.period.specs.Component.{graphOf, mostRate}
 use Rattle.period.specs.Prices.{pricesOf}
+use Rattle.rounds.specs.Costs.{mostCost}
 use Rattle.rounds.specs.Starts.{starts}
 use Rattle.rounds.specs.Back.{edgesOf}
 use Rattle.period.specs.declared.search.Cycle.{Cycle}
@@ -26,11 +27,6 @@ pub record WithinSteps (c : Cycle) : Type 0 where
   pub ordered : c .part .first ≤ c .part .last
   pub within : c .part .last ≤ 64
   pub long : length (c .steps) ≡ 64
-
--- the record of document 01 that shows a floor: kind 20, a port, or kind 19, a cycle
-abbrev pub kindOf : Floor → ℕ
-kindOf (Rate p) = 20
-kindOf Lower = 19
 
 -- the limit that a/b is: the rate limit of a port, or the lower limit of the cycle
 abbrev pub Shown : Graph → Floor → Cycle → ℕ → ℕ → Type 0
@@ -52,6 +48,15 @@ pub record Room (ports edges rows costs starts : List ℕ) : Type 0 where
   pub costs-room : 4 * (length edges / 6) ≤ length costs
   pub starts-room : length starts ≡ 64
 
+-- neither part of a/b is large
+pub record SmallPeriod (a b : ℕ) : Type 0 where
+  pub num : a ≤ mostRate
+  pub den : b ≤ mostRate
+
+-- the most of a start times b: what 64 edges gain
+abbrev pub mostStart : ℕ
+mostStart = 64 * mostCost
+
 module _ (ports limits edges : List ℕ) where
   -- settled: the period, which limit it is, and the least starts
   pub record FoundPeriod (r : Search) (starts′ : List ℕ) : Type 0 where
@@ -59,6 +64,8 @@ module _ (ports limits edges : List ℕ) where
     pub shown : Shown (graphOf ports limits edges) (r .floor) (r .limit) (r .period .num) (r .period .den)
     pub least : LeastStarts (graphOf ports limits edges) (r .period .num) (r .period .den) (λ p. getD starts′ p 0)
     pub rounds : RoundsRun (pricesOf edges (r .period .num) (r .period .den)) starts′ (length ports) (r .rounds)
+    pub small : SmallPeriod (r .period .num) (r .period .den)
+    pub small-starts : (p : ℕ) → getD starts′ p 0 ≤ mostStart
 
   -- blocked: a floor that no smaller a/b serves, and a cycle that is positive there and above; the starts are unchanged
   pub record FoundBlock (r : Search) (starts₀ starts′ : List ℕ) : Type 0 where
@@ -68,6 +75,8 @@ module _ (ports limits edges : List ℕ) where
     pub shown : Shown (graphOf ports limits edges) (r .floor) (r .limit) (r .period .num) (r .period .den)
     pub low : (a b : ℕ) → Serves (graphOf ports limits edges) a b → 0 < b → r .period .num * b ≤ a * r .period .den
     pub block : Blocks (graphOf ports limits edges) (cycleOf (r .block)) (r .period .num) (r .period .den)
+    pub limit-within : WithinSteps (r .limit)
+    pub block-within : WithinSteps (r .block)
     pub rounds : r .rounds ≡ length ports
     pub unchanged : starts′ ≡ starts₀
 

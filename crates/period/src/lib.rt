@@ -1,5 +1,5 @@
 // The least period of a component, or why there is none.
-pub mod cycle;
-pub mod limit;
-pub mod price;
+mod cycle;
+mod limit;
+mod price;
 pub mod search;

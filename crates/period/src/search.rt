@@ -1,4 +1,6 @@
 // The least period of a component, or a floor and a cycle that blocks every period.
+ghost use mathlib.Core.Path.{_≡_};
+ghost use lib.ListN.{length};
 ghost use Rattle.period.specs.Component.{Component};
 ghost use Rattle.period.specs.Prices.{pricesOf};
 ghost use Rattle.period.specs.Search.{cycleOf, WithinSteps, Room, Ends};
@@ -90,6 +92,9 @@ pub fn least_period(
     requires { ⌜ Component (now ports) (now limits) (now edges) ⌝ }
     requires { ⌜ Room (now ports) (now edges) (now rows) (now costs) (now starts) ⌝ }
     ensures { λ r. ⌜ Ends (now (ports .entry)) (now (limits .entry)) (now (edges .entry)) r (now (starts .entry)) (now (starts .exit)) ⌝ }
+    ensures { λ _. ⌜ length (now (rows .exit)) ≡ length (now (rows .entry)) ⌝ }
+    ensures { λ _. ⌜ length (now (costs .exit)) ≡ length (now (costs .entry)) ⌝ }
+    ensures { λ _. ⌜ length (now (starts .exit)) ≡ length (now (starts .entry)) ⌝ }
 {
     let n = ports.len();
     let greatest = limit::greatest_limit(ports, limits);

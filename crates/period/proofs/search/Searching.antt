@@ -4,6 +4,7 @@ use mathlib.Core.Path.{_≡_, refl, sym, _∙_}
 use mathlib.Core.Bool.{true, false, true≢false}
 use mathlib.Core.List.{List, []}
 use native.Mathlib.Omega.{arith}
+use native.Mathlib.Nat.{mul-le-mul-right}
 use lib.ListN.{length, getD, drop, length-take}
 use Rattle.fraction.specs.Lowest.{lowestTerms}
 use Rattle.fraction.specs.declared.Fraction.{Fraction}
@@ -11,13 +12,15 @@ use Rattle.rounds.specs.Graph.{gain, loss, LeastStarts}
 use Rattle.rounds.specs.Walks.{PositiveCycle}
 use Rattle.period.specs.Limits.{E⁺, E⁻, D⁺, D⁻, falling-gains, rate-below}
 use Rattle.period.specs.Component.{graphOf, Component, SmallEdges, mostRate}
+use Rattle.rounds.specs.Costs.{Priced, mostCost}
+use Rattle.rounds.specs.StartsLaws.{starts-bound}
 use Rattle.rounds.specs.Starts.{Stopped, starts as startsAfter, row}
 use Rattle.rounds.specs.Back.{FoundCycle, edgesOf}
 use Rattle.period.specs.Prices.{pricesOf}
 use Rattle.period.specs.PricesLaws.{prices-small, prices-enclosed, prices-cycle, prices-settled, cycle-edges}
 use Rattle.period.specs.Greatest.{Limited, GreatestLimit}
 use Rattle.period.specs.Sums.{Summing, SumsOf}
-use Rattle.period.specs.Search.{WithinSteps, Room, RoundsRun, Ends}
+use Rattle.period.specs.Search.{WithinSteps, Room, RoundsRun, mostStart, Ends}
 use Rattle.period.specs.Try.{Trying}
 use Rattle.period.proofs.search.Falls.{left}
 use Rattle.period.proofs.search.Floored.{Floored, floored-next, floored-falls, floored-blocks, floored-period}
@@ -57,11 +60,12 @@ pub record Searching (ports limits edges rows₀ costs₀ starts₀ rows costs s
   pub same-costs : length costs ≡ length costs₀
   pub unchanged : starts ≡ starts₀
   pub floored : Floored (graphOf ports limits edges) period floor limit
+  pub within : WithinSteps limit
 
 pub searching-first : {ports limits edges rows costs starts : List ℕ} {first : Limit} (limit : Cycle) → Component ports limits edges → Room ports edges rows costs starts
-    → GreatestLimit ports limits first
+    → GreatestLimit ports limits first → WithinSteps limit
     → Searching ports limits edges rows costs starts rows costs starts (first .period) (Rate (first .port)) limit
-searching-first {first = first} limit k r h = record {
+searching-first {first = first} limit k r h within = record {
   component = k;
   room = r;
   same-rows = refl;
@@ -77,6 +81,7 @@ searching-first {first = first} limit k r h = record {
     low = λ a b s over. rate-below (k .small-limits .den-some (first .port) (h .limit .a-port)) (record { a-port = h .limit .a-port; exact = h .limit .exact }) s;
     shown = record { a-port = h .limit .a-port; exact = h .limit .exact };
   };
+  within = within;
 }
 
 module _ {ports limits edges rows₀ costs₀ starts₀ rows costs starts : List ℕ} {period : Fraction} {floor : Floor} {limit : Cycle}
@@ -96,18 +101,31 @@ module _ {ports limits edges rows₀ costs₀ starts₀ rows costs starts : List
   pub searching-settled : {rows′ starts′ : List ℕ} {r : ℕ} (block : Cycle) → Stopped (pricesOf edges (period .num) (period .den)) rows′ (length ports) r → starts′ ≡ row rows′ r
       → Ends ports limits edges (record { settled = true; period = period; floor = floor; limit = limit; block = block; rounds = r + 1 }) starts₀ starts′
   searching-settled {rows′} {starts′} {r} block h e = record {
-    settled = λ yes. record { period = floored-period (s .floored) least; shown = s .floored .shown; least = least; rounds = run };
+    settled = λ yes. record {
+      period = floored-period (s .floored) least;
+      shown = s .floored .shown;
+      least = least;
+      rounds = run;
+      small = record { num = s .floored .small-num; den = s .floored .small-den };
+      small-starts = small;
+    };
     blocked = λ no. absurd (true≢false no);
   }
     where
       cs : List ℕ
       cs = pricesOf edges (period .num) (period .den)
 
+      priced : Priced cs
+      priced = prices-small (s .component) (s .floored .small-num) (s .floored .small-den)
+
       made : starts′ ≡ startsAfter cs r
       made = e ∙ h .kept .rows-are r (omega arith)
 
       least : LeastStarts (graphOf ports limits edges) (period .num) (period .den) (λ p. getD starts′ p 0)
-      least = rw made (prices-settled (s .component) (period .num) (period .den) r (prices-small (s .component) (s .floored .small-num) (s .floored .small-den)) (h .still))
+      least = rw made (prices-settled (s .component) (period .num) (period .den) r priced (h .still))
+
+      small : (p : ℕ) → getD starts′ p 0 ≤ mostStart
+      small p = rw made (omega (arith, starts-bound cs priced r p, mul-le-mul-right mostCost (h .within), mul-le-mul-right mostCost (s .component .few-ports)))
 
       run : RoundsRun cs starts′ (length ports) (r + 1)
       run = record { changing = r; is = omega arith; within = omega (arith, h .within); moved = h .moved; still = h .still; made = made }
@@ -129,10 +147,10 @@ module _ {ports limits edges rows₀ costs₀ starts₀ rows costs starts : List
 
     module _ {sums : Sums} (m : SumsOf edges (edgesOf steps part) sums) where
       -- D zero or more: it blocks
-      pub searching-blocked : sums .events .1 ≤ sums .events .0
+      pub searching-blocked : length steps ≡ 64 → sums .events .1 ≤ sums .events .0
           → Ends ports limits edges
           (record { settled = false; period = period; floor = floor; limit = limit; block = record { steps = steps; part = part }; rounds = length ports }) starts₀ starts
-      searching-blocked rises = record {
+      searching-blocked long rises = record {
         settled = λ yes. absurd (true≢false (sym yes));
         blocked = λ no. record {
           above-zero = s .floored .above-zero;
@@ -141,6 +159,8 @@ module _ {ports limits edges rows₀ costs₀ starts₀ rows costs starts : List
           shown = s .floored .shown;
           low = s .floored .low;
           block = floored-blocks (s .component .among) (s .component .few-ports) (s .component .small-edges) (s .floored) positive (omega (arith, m));
+          limit-within = s .within;
+          block-within = searching-within long;
           rounds = refl;
           unchanged = s .unchanged;
         };
@@ -161,13 +181,14 @@ module _ {ports limits edges rows₀ costs₀ starts₀ rows costs starts : List
           pub searching-falls : left mostRate (period′ .num) (period′ .den) < left mostRate (period .num) (period .den)
           searching-falls = floored-falls (s .component .among) (s .component .few-ports) (s .component .small-edges) (s .floored) positive falling lowest-limit
 
-          pub searching-next : {rows′ costs′ : List ℕ} → length rows′ ≡ length rows → length costs′ ≡ length costs
+          pub searching-next : {rows′ costs′ : List ℕ} → length steps ≡ 64 → length rows′ ≡ length rows → length costs′ ≡ length costs
               → Searching ports limits edges rows₀ costs₀ starts₀ rows′ costs′ starts period′ Lower (record { steps = steps; part = part })
-          searching-next same-rows same-costs = record {
+          searching-next long same-rows same-costs = record {
             component = s .component;
             room = record { rows-room = omega (arith, s .room .rows-room); costs-room = omega (arith, s .room .costs-room); starts-room = s .room .starts-room };
             same-rows = same-rows ∙ s .same-rows;
             same-costs = same-costs ∙ s .same-costs;
             unchanged = s .unchanged;
             floored = floored-next (s .component .among) (s .component .few-ports) (s .component .small-edges) (s .floored) positive falling lowest-limit refl;
+            within = searching-within long;
           }

@@ -8,13 +8,7 @@ use lib.ListN.{length, set, getD, drop, drop-of-length-le}
 use lib.Seq.{sets, sets-eq, length-sets, drop-cons}
 use Rattle.records.specs.Bytes.{bytes, words}
 use Rattle.records.specs.Answer.{Written}
-
--- two stores, the second right behind the first, are one of both lists
-sets-append : (l : List ℕ) (at : ℕ) (xs ys : List ℕ) → sets (sets l at xs) (at + length xs) ys ≡ sets l at (xs ++ ys)
-sets-append l at [] ys = let e : at + 0 ≡ at = omega arith in rw e
-sets-append l at (x ∷ xs) ys =
-    let e : at + suc (length xs) ≡ suc at + length xs = omega arith in
-    rw e (sets-append _ (suc at) xs ys)
+use Rattle.records.specs.WrittenLaws.{sets-append}
 
 -- where l is now, to store xs at a place is all that is left of storing xs₀ in l₀ at its place
 pub record Left (l₀ : List ℕ) (at₀ : ℕ) (xs₀ l : List ℕ) (at : ℕ) (xs : List ℕ) : Type 0 where
@@ -68,11 +62,6 @@ module _ {l₀ : List ℕ} {at₀ : ℕ} {xs₀ : List ℕ} where
     pub word-none : length ns ≤ i → Left l₀ at₀ xs₀ l (at + 2 * i) (words (drop i ns)) → l ≡ sets l₀ at₀ xs₀
     unfolding words
     word-none h f = left-none f (rw (drop-of-length-le ns {i = i}))
-
-pub words-length : (ns : List ℕ) → length (words ns) ≡ 2 * length ns
-unfolding words bytes
-words-length [] = refl
-words-length (n ∷ ns) = let e = words-length ns in omega arith
 
 -- a record stored at the front is written
 pub written : {xs l l' : List ℕ} {count : ℕ}

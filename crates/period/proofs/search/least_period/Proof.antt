@@ -21,7 +21,7 @@ greatest-limit-requires : tie.Need-greatest-limit-requires Inv-loop μ-loop
 greatest-limit-requires c κs = limited (c .before .before .before .before .before .before .pre .0)
 
 loop-holds : tie.Need-loop-holds Inv-loop μ-loop
-loop-holds c = searching-first _ (c .before .before .before .before .before .before .before .before .pre .0) (c .before .before .before .before .before .before .before .before .pre .1) (c .before .greatest-limit .ensures)
+loop-holds c = searching-first _ (c .before .before .before .before .before .before .before .before .pre .0) (c .before .before .before .before .before .before .before .before .pre .1) (c .before .greatest-limit .ensures) (record { ordered = omega arith; within = omega arith; long = refl })
 
 slice-aggregate-try-at : tie.Need-slice-aggregate-try-at Inv-loop μ-loop
 slice-aggregate-try-at c = search needs
@@ -48,7 +48,7 @@ same-length-3 : tie.Need-same-length-3 Inv-loop μ-loop
 same-length-3 c = omega (arith, c .before .before .before .before .before .before .before .before .before .before .before .before .before .before .before .before .before .loop .inv .room .starts-room, ap length (c .before .before .before .before .before .before .before .before .before .before .before .before .before .before .before .before .before .loop .inv .unchanged))
 
 returns : tie.Need-returns Inv-loop μ-loop
-returns c = searching-settled (c .before .before .before .before .before .before .before .before .before .before .before .before .before .before .before .before .before .loop .inv) _ (rw (c .before .before .before .before .before .before .r .given .1) at (c .before .before .before .before .before .before .before .before .before .before .before .before .before .try-at .ensures .0)) (c .before .before .row-into .ensures)
+returns c = (searching-settled (c .before .before .before .before .before .before .before .before .before .before .before .before .before .before .before .before .before .loop .inv) _ (rw (c .before .before .before .before .before .before .r .given .1) at (c .before .before .before .before .before .before .before .before .before .before .before .before .before .try-at .ensures .0)) (c .before .before .row-into .ensures), (omega (arith, (c .before .before .before .before .before .before .before .before .before .before .before .before .before .before .before .before .before .loop .inv), c .before .before .before .before .before .before .before .before .before .before .before .before .before .try-at .ensures .1), (omega (arith, (c .before .before .before .before .before .before .before .before .before .before .before .before .before .before .before .before .before .loop .inv), c .before .before .before .before .before .before .before .before .before .before .before .before .before .try-at .ensures .1), omega (arith, c .before .before .before .before .before .before .before .before .before .before .before .before .before .before .before .before .before .loop .inv .room .starts-room, ap length (c .before .before .before .before .before .before .before .before .before .before .before .before .before .before .before .before .before .loop .inv .unchanged)))))
 
 enum-known-part : tie.Need-enum-known-part Inv-loop μ-loop
 enum-known-part c = search needs
@@ -66,7 +66,7 @@ same-length-6 : tie.Need-same-length-6 Inv-loop μ-loop
 same-length-6 c = omega (arith, ap length (c .before .before .before .before .before .before .before .before .before .before .before .before .before .before .before .loop .inv .unchanged))
 
 returns-2 : tie.Need-returns-2 Inv-loop μ-loop
-returns-2 c = searching-blocked (c .before .before .before .before .before .before .before .before .before .before .before .before .before .before .before .loop .inv) (rw (c .before .before .before .before .part .given .1) at (c .before .before .before .before .before .before .before .before .before .before .before .try-at .ensures .0)) (c .before .before .cycle-sums .ensures) (search needs)
+returns-2 c = (searching-blocked (c .before .before .before .before .before .before .before .before .before .before .before .before .before .before .before .loop .inv) (rw (c .before .before .before .before .part .given .1) at (c .before .before .before .before .before .before .before .before .before .before .before .try-at .ensures .0)) (c .before .before .cycle-sums .ensures) (c .before .before .before .before .before .before .before .before .before .before .before .try-at .ensures .1 .of-steps) (search needs), (omega (arith, (c .before .before .before .before .before .before .before .before .before .before .before .before .before .before .before .loop .inv), c .before .before .before .before .before .before .before .before .before .before .before .try-at .ensures .1), (omega (arith, (c .before .before .before .before .before .before .before .before .before .before .before .before .before .before .before .loop .inv), c .before .before .before .before .before .before .before .before .before .before .before .try-at .ensures .1), omega (arith, ap length (c .before .before .before .before .before .before .before .before .before .before .before .before .before .before .before .loop .inv .unchanged)))))
 
 sub-reduced : tie.Need-sub-reduced Inv-loop μ-loop
 sub-reduced c = omega (arith, searching-gains (c .before .before .before .before .before .before .before .before .before .before .before .before .before .before .before .before .loop .inv) (rw (c .before .before .before .before .before .part .given .1) at (c .before .before .before .before .before .before .before .before .before .before .before .before .try-at .ensures .0)) (c .before .before .before .cycle-sums .ensures) (search needs))
@@ -81,7 +81,7 @@ loop-less : tie.Need-loop-less Inv-loop μ-loop
 loop-less c = searching-falls (c .before .before .before .before .before .before .before .before .before .before .before .before .before .before .before .before .before .before .loop .inv) (rw (c .before .before .before .before .before .before .before .part .given .1) at (c .before .before .before .before .before .before .before .before .before .before .before .before .before .before .try-at .ensures .0)) (c .before .before .before .before .before .cycle-sums .ensures) (search needs) (c .reduced .ensures)
 
 loop-again : tie.Need-loop-again Inv-loop μ-loop
-loop-again c = searching-next (c .before .before .before .before .before .before .before .before .before .before .before .before .before .before .before .before .before .before .loop .inv) (rw (c .before .before .before .before .before .before .before .part .given .1) at (c .before .before .before .before .before .before .before .before .before .before .before .before .before .before .try-at .ensures .0)) (c .before .before .before .before .before .cycle-sums .ensures) (search needs) (c .reduced .ensures) (c .before .before .before .before .before .before .before .before .before .before .before .before .before .before .try-at .ensures .1 .of-rows) (c .before .before .before .before .before .before .before .before .before .before .before .before .before .before .try-at .ensures .1 .of-costs)
+loop-again c = searching-next (c .before .before .before .before .before .before .before .before .before .before .before .before .before .before .before .before .before .before .loop .inv) (rw (c .before .before .before .before .before .before .before .part .given .1) at (c .before .before .before .before .before .before .before .before .before .before .before .before .before .before .try-at .ensures .0)) (c .before .before .before .before .before .cycle-sums .ensures) (search needs) (c .reduced .ensures) (c .before .before .before .before .before .before .before .before .before .before .before .before .before .before .try-at .ensures .1 .of-steps) (c .before .before .before .before .before .before .before .before .before .before .before .before .before .before .try-at .ensures .1 .of-rows) (c .before .before .before .before .before .before .before .before .before .before .before .before .before .before .try-at .ensures .1 .of-costs)
 
 pub least-period-spec : {M : Type 1} → statement M
 least-period-spec =

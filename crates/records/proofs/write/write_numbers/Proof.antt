@@ -3,7 +3,8 @@ use native.Mathlib.Omega.{arith}
 use borrow.Author.Needs.{needs}
 use Rattle.records.specs.Bytes.{bytes}
 use Rattle.records.specs.Answer.{encode}
-use Rattle.records.proofs.write.Laws.{words-length, written}
+use Rattle.records.specs.Lengths.{words-length}
+use Rattle.records.proofs.write.Laws.{written}
 use Rattle.records.proofs.write.write_numbers.Statement.{statement}
 use Rattle.records.proofs.write.write_numbers.Tie as tie
 

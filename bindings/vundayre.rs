@@ -1,0 +1,23 @@
+//! The timing check of Vundayre, for Rust. Link with libvundayre.a (`rt staticlib vundayre`).
+
+/// An answer buffer of this many bytes suffices for every table; a shorter one is refused with number 1.
+pub const ANSWER_BYTES: usize = 5120;
+
+#[repr(C)]
+struct Outcome {
+    number: u64,
+    written: usize,
+}
+
+extern "C" {
+    fn vundayre_analyse(table: *const u8, table_bytes: usize, answer: *mut u8, answer_bytes: usize) -> Outcome;
+}
+
+/// Analyses a table, any bytes at all. Answers document 01's number and the records that were written at the front of `answer`.
+///
+/// Numbers 1 to 12 and 14 write nothing. Bytes of `answer` past the records keep what they held.
+pub fn analyse<'a>(table: &[u8], answer: &'a mut [u8]) -> (u64, &'a [u8]) {
+    // The pointers of slices are never null, and a shared and a mutable slice never overlap.
+    let outcome = unsafe { vundayre_analyse(table.as_ptr(), table.len(), answer.as_mut_ptr(), answer.len()) };
+    (outcome.number, &answer[..outcome.written])
+}

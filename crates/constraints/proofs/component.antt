@@ -1,0 +1,3 @@
+-- What the proof of the search uses.
+mod Cut
+mod Translated

@@ -1,0 +1,3 @@
+-- What the proofs of the slices use.
+mod Going
+mod Turns

@@ -1,0 +1,71 @@
+-- What the search for the least period of a component says in the table's own terms. Assumes nothing.
+use Prim.Native.Nat.{ℕ, _≤_, _<_}
+use mathlib.Core.Path.{_≡_}
+use mathlib.Core.Bool.{true, false}
+use mathlib.Core.List.{List, _++_, map}
+use lib.ListN.{length, getD}
+use Rattle.rounds.specs.Lists.{_∈_}
+use Rattle.rounds.specs.Graph.{LeastStarts}
+use Rattle.table.specs.Limits.{WellFormed}
+use Rattle.table.specs.declared.Table.{Table}
+use Rattle.ways.specs.Labels.{Components}
+use Rattle.period.specs.Periods.{Period, Blocks}
+use Rattle.period.specs.Search.{cycleOf, WithinSteps, SmallPeriod, mostStart}
+use Rattle.period.specs.declared.search.Cycle.{Cycle}
+use Rattle.period.specs.declared.search.Floor.{Floor as Shown}
+use Rattle.period.specs.declared.search.Floor.the-variants.{Rate, Lower}
+use Rattle.period.specs.declared.search.Search.{Search}
+use Rattle.weights.specs.Weighed.{HasWeights}
+use Rattle.answers.specs.Constraints.{graphIn}
+use Rattle.answers.specs.Answers.{Floor, rate, cycle, IsFloor}
+use Rattle.constraints.specs.Slices.{limitsOf}
+
+-- a table with its components and weights
+pub record Labelled (t : Table) (labels weights : List ℕ) : Type 0 where
+  pub well-formed : WellFormed t
+  pub components : Components t labels
+  pub weighed : HasWeights t weights
+
+-- the limits of the table's ports stand at the front of the slice
+pub record HasLimits (t : Table) (weights limits : List ℕ) : Type 0 where
+  pub rest : List ℕ
+  pub are : limits ≡ limitsOf t weights (t .«port_count») ++ rest
+  pub long : 128 ≤ length limits
+
+-- room for the connections, edges, rows, prices and starts of a component
+pub record WorkRoom (numbers edges rows costs starts : List ℕ) : Type 0 where
+  pub of-numbers : length numbers ≡ 256
+  pub of-edges : length edges ≡ 1536
+  pub of-rows : length rows ≡ 4160
+  pub of-costs : length costs ≡ 1024
+  pub of-starts : length starts ≡ 64
+
+-- the connections of a cycle, by their numbers
+abbrev pub connectionsOf : List ℕ → Cycle → List ℕ
+connectionsOf numbers c = map (λ i. getD numbers i 0) (cycleOf c)
+
+abbrev pub floorOf : List ℕ → Cycle → Shown → Floor
+floorOf numbers c (Rate p) = rate p
+floorOf numbers c Lower = cycle (connectionsOf numbers c)
+
+module _ (t : Table) (weights : List ℕ) (c : ℕ) where
+  -- the period of component c and its least starts
+  pub record PeriodIn (r : Search) (starts : List ℕ) : Type 0 where
+    pub period : Period (graphIn t (λ p. getD weights p 0) c) (r .period .num) (r .period .den)
+    pub least : LeastStarts (graphIn t (λ p. getD weights p 0) c) (r .period .num) (r .period .den) (λ p. getD starts p 0)
+    pub small : SmallPeriod (r .period .num) (r .period .den)
+    pub small-starts : (p : ℕ) → getD starts p 0 ≤ mostStart
+
+  -- a floor of component c and a cycle that blocks there
+  pub record BlockIn (r : Search) (numbers : List ℕ) : Type 0 where
+    pub over : 0 < r .period .den
+    pub is-floor : IsFloor (graphIn t (λ p. getD weights p 0) c) (floorOf numbers (r .limit) (r .floor)) (r .period .num) (r .period .den)
+    pub blocks : Blocks (graphIn t (λ p. getD weights p 0) c) (connectionsOf numbers (r .block)) (r .period .num) (r .period .den)
+    pub limit-within : WithinSteps (r .limit)
+    pub block-within : WithinSteps (r .block)
+    pub limit-steps : r .floor ≡ Lower → (i : ℕ) → i ∈ cycleOf (r .limit) → i < length numbers
+    pub block-steps : (i : ℕ) → i ∈ cycleOf (r .block) → i < length numbers
+
+  pub record Searched (r : Search) (numbers starts : List ℕ) : Type 0 where
+    pub settled : r .settled ≡ true → PeriodIn r starts
+    pub blocked : r .settled ≡ false → BlockIn r numbers

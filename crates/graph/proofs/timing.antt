@@ -1,0 +1,4 @@
+-- What the proofs of timing the components use.
+pub mod Components
+mod Keeping
+mod Turns

@@ -1,0 +1,59 @@
+-- What is shown fits the answer buffer, and its text the text buffer. Assumes nothing.
+use native.Mathlib.Omega.{arith}
+use lib.ListN.{length-take}
+use borrow.Author.Needs.{needs}
+use Rattle.models.proofs.report.Statement.{statement}
+use Rattle.models.proofs.report.Tie as tie
+
+answer-room-requires : tie.Need-answer-room-requires
+answer-room-requires c κs = search needs
+
+slice-aggregate-analyse : tie.Need-slice-aggregate-analyse
+slice-aggregate-analyse c = search needs
+
+analyse-requires : tie.Need-analyse-requires
+analyse-requires c κs = search needs
+
+shown-bytes-requires : tie.Need-shown-bytes-requires
+shown-bytes-requires c κs = search needs
+
+array-share-prefix-answer : tie.Need-array-share-prefix-answer
+array-share-prefix-answer c = search needs
+
+slice-aggregate-print : tie.Need-slice-aggregate-print
+slice-aggregate-print c = simp length-take (omega (arith, c .before .shown-bytes .ensures, c .before .before .before .analyse .ensures .1, c .before .before .before .before .before .answer-room .ensures))
+
+print-requires : tie.Need-print-requires
+print-requires c κs = (simp length-take (omega (arith, c .before .before .shown-bytes .ensures, c .before .before .before .before .analyse .ensures .1)), search needs)
+
+slice-reshare-prefix-write-all : tie.Need-slice-reshare-prefix-write-all
+slice-reshare-prefix-write-all c = search needs
+
+slice-aggregate-write-all : tie.Need-slice-aggregate-write-all
+slice-aggregate-write-all c = simp length-take (omega (arith, c .before .before .before .print .ensures .1))
+
+write-all-requires : tie.Need-write-all-requires
+write-all-requires c κs = search needs
+
+same-length : tie.Need-same-length
+same-length c = search needs
+
+returns : tie.Need-returns
+returns c = search needs
+
+pub report-spec : {M : Type 1} → statement M
+report-spec =
+    tie.close
+    (tie.spec
+    answer-room-requires
+    slice-aggregate-analyse
+    analyse-requires
+    shown-bytes-requires
+    array-share-prefix-answer
+    slice-aggregate-print
+    print-requires
+    slice-reshare-prefix-write-all
+    slice-aggregate-write-all
+    write-all-requires
+    same-length
+    returns)

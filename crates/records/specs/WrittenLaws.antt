@@ -1,0 +1,48 @@
+-- Laws of what is written to the front of a buffer, and of stores right behind one another. Assumes nothing.
+use Prim.Native.Nat.{ℕ, suc, _+_, _-_, _≤_}
+use mathlib.Core.Path.{_≡_, sym, ap, _∙_}
+use mathlib.Core.List.{List, [], _∷_, _++_, append-assoc, append-nil}
+use native.Mathlib.Omega.{arith}
+use lib.ListN.{length, take, drop, length-append, length-drop, drop-of-length-le}
+use lib.Seq.{sets, take-all, take-at, drop-at, drop-drop}
+use Rattle.records.specs.Answer.{Written}
+
+-- two stores, the second right behind the first, are one of both lists
+pub sets-append : (l : List ℕ) (at : ℕ) (xs ys : List ℕ) → sets (sets l at xs) (at + length xs) ys ≡ sets l at (xs ++ ys)
+sets-append l at [] ys = let e : at + 0 ≡ at = omega arith in rw e
+sets-append l at (x ∷ xs) ys =
+    let e : at + suc (length xs) ≡ suc at + length xs = omega arith in
+    rw e (sets-append _ (suc at) xs ys)
+
+module _ {xs ys₀ ys : List ℕ} {n : ℕ} (w : Written xs ys₀ ys n) where
+  -- the front is the list
+  pub written-front : take n ys ≡ xs
+  written-front = rw (w .contents) (take-at xs (drop (length xs) ys₀) n (sym (w .counted)))
+
+  -- the buffer is as long as it was, where it had room
+  pub written-length : length xs ≤ length ys₀ → length ys ≡ length ys₀
+  written-length h = ap length (w .contents) ∙ simp (length-append, length-drop) (omega arith)
+
+  pub written-within : n ≤ length ys
+  written-within = omega (arith, w .counted, simp (length-append, length-drop) at (ap length (w .contents)))
+
+-- the part of ys from a place on, and ys with that part put back
+abbrev pub partAt : List ℕ → ℕ → List ℕ
+partAt ys at = take (length ys - at) (drop at ys)
+
+abbrev pub putBack : List ℕ → ℕ → List ℕ → List ℕ
+putBack ys at part = take at ys ++ (part ++ drop (length ys - at) (drop at ys))
+
+-- two records, the second written into the part that begins behind the first
+pub written-append : {xs b ys₀ ys part : List ℕ} {at n : ℕ} → Written xs ys₀ ys at → Written b (partAt ys at) part n
+    → Written (xs ++ b) ys₀ (putBack ys at part) (at + n)
+written-append {xs} {b} {ys₀} {ys} {part} {at} {n} w v = record {
+  contents =
+      let short : length (drop at ys) ≤ length ys - at = omega (arith, length-drop at ys) in
+      let placed : length xs ≡ at = omega (arith, w .counted) in
+      let front : take at ys ≡ xs = rw (w .contents, take-at xs _ at placed) in
+      let behind : drop at ys ≡ drop (length xs) ys₀ = rw (w .contents, drop-at xs _ at placed) in
+      let whole : partAt ys at ≡ drop (length xs) ys₀ = take-all _ _ short ∙ behind in
+      rw (drop-of-length-le (drop at ys) short, append-nil, front, v .contents, whole, drop-drop, length-append, append-assoc);
+  counted = rw length-append (omega (arith, w .counted, v .counted));
+}

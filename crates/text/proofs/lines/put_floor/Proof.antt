@@ -1,0 +1,44 @@
+-- The field, and the end of the line. Assumes nothing.
+use Rattle.text.specs.Printed.{floorLine}
+use Rattle.text.specs.Put.{_⨾_}
+use borrow.Author.Needs.{needs}
+use Rattle.text.proofs.lines.put_floor.Statement.{statement}
+use Rattle.text.proofs.lines.put_floor.Tie as tie
+
+slice-aggregate-put-field : tie.Need-slice-aggregate-put-field
+slice-aggregate-put-field c = search needs
+
+add-number-at : tie.Need-add-number-at
+add-number-at c = search needs
+
+number-at-requires : tie.Need-number-at-requires
+number-at-requires c κs = search needs
+
+put-field-requires : tie.Need-put-field-requires
+put-field-requires c κs = search needs
+
+slice-aggregate-put : tie.Need-slice-aggregate-put
+slice-aggregate-put c = search needs
+
+put-requires : tie.Need-put-requires
+put-requires c κs = search needs
+
+same-length : tie.Need-same-length
+same-length c = search needs
+
+returns : tie.Need-returns
+unfolding floorLine
+returns c = rw (← c .before .before .before .before .before .before .before .before .number-at .ensures .0) (c .before .before .before .before .before .before .before .put-field .ensures .0 ⨾ c .before .before .put .ensures)
+
+pub put-floor-spec : {M : Type 1} → statement M
+put-floor-spec =
+    tie.close
+    (tie.spec
+    slice-aggregate-put-field
+    add-number-at
+    number-at-requires
+    put-field-requires
+    slice-aggregate-put
+    put-requires
+    same-length
+    returns)

@@ -1,0 +1,69 @@
+-- The fields are the numbers of the record; a weight of 16 bits times a of 32 fits. Assumes nothing.
+use native.Mathlib.Omega.{arith}
+use native.Mathlib.Nat.{mul-le-mul}
+use Rattle.text.specs.Printed.{portLine}
+use borrow.Author.Needs.{needs}
+use Rattle.text.proofs.lines.put_port.Statement.{statement}
+use Rattle.text.proofs.lines.put_port.Tie as tie
+
+add-number-at : tie.Need-add-number-at
+add-number-at c = search needs
+
+number-at-requires : tie.Need-number-at-requires
+number-at-requires c κs = search needs
+
+add-number-at-2 : tie.Need-add-number-at-2
+add-number-at-2 c = search needs
+
+number-at-requires-2 : tie.Need-number-at-requires-2
+number-at-requires-2 c κs = search needs
+
+add-number-at-3 : tie.Need-add-number-at-3
+add-number-at-3 c = search needs
+
+number-at-requires-3 : tie.Need-number-at-requires-3
+number-at-requires-3 c κs = search needs
+
+add-number-at-4 : tie.Need-add-number-at-4
+add-number-at-4 c = search needs
+
+number-at-requires-4 : tie.Need-number-at-requires-4
+number-at-requires-4 c κs = search needs
+
+add-number-at-5 : tie.Need-add-number-at-5
+add-number-at-5 c = search needs
+
+number-at-requires-5 : tie.Need-number-at-requires-5
+number-at-requires-5 c κs = search needs
+
+mul-put-port-text : tie.Need-mul-put-port-text
+mul-put-port-text c = omega (arith, mul-le-mul (c .before .before .before .before .number-at2 .ensures .1) (c .before .before .before .number-at3 .ensures .1))
+
+put-port-text-requires : tie.Need-put-port-text-requires
+put-port-text-requires c κs = search needs
+
+same-length : tie.Need-same-length
+same-length c = search needs
+
+returns : tie.Need-returns
+unfolding portLine
+returns c = rw (← c .before .before .before .before .before .before .before .before .number-at .ensures .0, ← c .before .before .before .before .before .before .before .number-at2 .ensures .0, ← c .before .before .before .before .before .before .number-at3 .ensures .0, ← c .before .before .before .before .before .number-at4 .ensures .0, ← c .before .before .before .before .number-at5 .ensures .0) (c .before .before .put-port-text .ensures)
+
+pub put-port-spec : {M : Type 1} → statement M
+put-port-spec =
+    tie.close
+    (tie.spec
+    add-number-at
+    number-at-requires
+    add-number-at-2
+    number-at-requires-2
+    add-number-at-3
+    number-at-requires-3
+    add-number-at-4
+    number-at-requires-4
+    add-number-at-5
+    number-at-requires-5
+    mul-put-port-text
+    put-port-text-requires
+    same-length
+    returns)

@@ -1,0 +1,2 @@
+-- What the proofs of the whole text use.
+mod Going

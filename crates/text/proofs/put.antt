@@ -1,0 +1,3 @@
+-- What the proofs of words, numbers and fractions use.
+mod Copying
+mod Digits

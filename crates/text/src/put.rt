@@ -1,0 +1,69 @@
+// Puts words, numbers, fractions and fields into the text, each at a place, and answers the place behind it.
+ghost use mathlib.Core.Path.{_≡_};
+ghost use Prim.Native.Nat.{_+_, _≤_};
+ghost use lib.ListN.{length};
+ghost use Rattle.text.specs.Printed.{decimal, field, fraction, fractionField, shown};
+ghost use Rattle.text.specs.Put.{Put};
+use fraction::Fraction;
+
+pub fn put(text: &mut [u8], to: usize, word: &[u8]) -> usize
+    requires { ⌜ to + length (now word) ≤ length (now text) ⌝ }
+    ensures { λ r. ⌜ Put (now (word .entry)) (now (text .entry)) (now (text .exit)) to r ⌝ }
+{
+    let mut i: usize = 0;
+    while i < word.len() {
+        text[to + i] = word[i];
+        i = i + 1;
+    }
+    to + i
+}
+
+pub fn put_decimal(text: &mut [u8], to: usize, n: u64) -> usize
+    requires { ⌜ to + 20 ≤ length (now text) ⌝ }
+    ensures { λ r. ⌜ Put (decimal n) (now (text .entry)) (now (text .exit)) to r ⌝ }
+    ensures within { λ r. ⌜ r ≤ to + 20 ⌝ }
+{
+    let mut digits = [0u8; 20];
+    let k = io::decimal(n, &mut digits);
+    put(text, to, &digits[..k])
+}
+
+fn shown_as(num: u64, den: u64) -> Fraction
+    ensures { λ r. ⌜ r ≡ shown num den ⌝ }
+{
+    if den == 0 {
+        return Fraction { num: num, den: den };
+    }
+    Fraction::reduced(num, den)
+}
+
+fn put_fraction(text: &mut [u8], to: usize, num: u64, den: u64) -> usize
+    requires { ⌜ to + 41 ≤ length (now text) ⌝ }
+    ensures { λ r. ⌜ Put (fraction num den) (now (text .entry)) (now (text .exit)) to r ⌝ }
+    ensures within { λ r. ⌜ r ≤ to + 41 ⌝ }
+{
+    let f = shown_as(num, den);
+    let slash = put_decimal(text, to, f.num);
+    let over = put(text, slash, b"/");
+    put_decimal(text, over, f.den)
+}
+
+// A word, and a number behind it.
+pub fn put_field(text: &mut [u8], to: usize, word: &[u8], n: u64) -> usize
+    requires { ⌜ to + length (now word) + 20 ≤ length (now text) ⌝ }
+    ensures { λ r. ⌜ Put (field (now (word .entry)) n) (now (text .entry)) (now (text .exit)) to r ⌝ }
+    ensures within { λ r. ⌜ r ≤ to + length (now (word .entry)) + 20 ⌝ }
+{
+    let end = put(text, to, word);
+    put_decimal(text, end, n)
+}
+
+// A word, and a fraction behind it.
+pub fn put_fraction_field(text: &mut [u8], to: usize, word: &[u8], num: u64, den: u64) -> usize
+    requires { ⌜ to + length (now word) + 41 ≤ length (now text) ⌝ }
+    ensures { λ r. ⌜ Put (fractionField (now (word .entry)) num den) (now (text .entry)) (now (text .exit)) to r ⌝ }
+    ensures within { λ r. ⌜ r ≤ to + length (now (word .entry)) + 41 ⌝ }
+{
+    let end = put(text, to, word);
+    put_fraction(text, end, num, den)
+}

@@ -1,0 +1,3 @@
+-- What the proofs of the records of number 15 use.
+mod Named
+mod Short

@@ -1,0 +1,33 @@
+// The size of a buffer.
+ghost use Prim.Native.Nat.{_<_, _*_};
+ghost use mathlib.Core.Path.{_≡_};
+ghost use Rattle.timings.specs.Timings.{fewestEvents, sizeAt, BufferNumbers};
+use table::Link;
+
+// The fewest events: the least d for which `from` is at most `to` plus d periods.
+fn fewest(from: u64, to: u64, period: u64) -> u64
+    requires { ⌜ 0 < period ⌝ }
+    ensures { λ r. ⌜ r ≡ fewestEvents from to period ⌝ }
+{
+    if from <= to {
+        return 0;
+    }
+    (from - to - 1) / period + 1
+}
+
+// The size of buffer l, from the weights and the periods and starts of its ends.
+pub fn size_of(l: Link, weights: [u64; 64], timing: &[u64]) -> u64
+    requires { ⌜ BufferNumbers l weights (now timing) ⌝ }
+    ensures { λ r. ⌜ r ≡ sizeAt l weights (now (timing .entry)) ⌝ }
+{
+    let from = l.from as usize;
+    let to = l.to as usize;
+    let ticks = l.ticks;
+    let a = timing[3 * from];
+    let b = timing[3 * from + 1];
+    fewest(
+        timing[3 * from + 2] + ticks.0 * b,
+        timing[3 * to + 2] + ticks.1 * b,
+        weights[from] * a,
+    )
+}

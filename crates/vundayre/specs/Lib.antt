@@ -1,0 +1,2 @@
+-- What the exported analysis promises.
+pub mod Exported

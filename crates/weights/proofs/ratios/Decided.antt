@@ -1,0 +1,53 @@
+-- From the forest, the first conflict and the weights to the outcome. Assumes nothing.
+use Prim.Native.Nat.{ℕ, _≤_, _<_}
+use mathlib.Core.Path.{_≡_}
+use mathlib.Core.List.{List, map}
+use native.Mathlib.Omega.{arith}
+use lib.ListN.{length}
+use Rattle.table.specs.Limits.{WellFormed}
+use Rattle.table.specs.declared.Table.{Table}
+use Rattle.rounds.specs.Lists.{_∈_}
+use Rattle.ways.specs.Model.{from}
+use Rattle.ways.specs.Ways.{above, below}
+use Rattle.ways.specs.Labels.{Components}
+use Rattle.forest.specs.PortRows.{Fits, Spanned}
+use Rattle.forest.specs.Agreement.{FirstConflict}
+use Rattle.forest.specs.Conflicting.{loop-unequal}
+use Rattle.forest.specs.Loop.{stepsFrom, Closing, Closed}
+use Rattle.weights.specs.Weighed.{Weighing}
+use Rattle.weights.specs.Ratios.{DisagreeingLoop, LoopNumbers}
+
+module _ {t : Table} {labels reach via : List ℕ} {rows : List (List ℕ)} {k : ℕ} (formed : WellFormed t) (components : Components t labels)
+    (spanned : Spanned t labels reach via rows) (first : FirstConflict t rows k) where
+  -- a link that the rows do not fit is none of the forest's
+  pub closing : {numbers : List ℕ} → k < t .«link_count» → 128 ≤ length numbers → Closing t labels reach via k numbers
+  closing below room = record {
+    well-formed = formed;
+    components = components;
+    forest = spanned .forest;
+    a-link = record { below = below };
+    outside = λ p port other e. first .conflict below (rw e at (spanned .over-forest p port other));
+    room = room;
+  }
+
+  disagrees : {numbers : List ℕ} {n : ℕ} → k < t .«link_count» → Closed t labels via k numbers n → DisagreeingLoop t (stepsFrom numbers 0 n)
+  disagrees {numbers} {n} low c = record { at = from t k; way = c .way; ports = c .ports; links = c .links; unequal = unequal }
+    where
+      fits : (j : ℕ) → j ∈ map (λ x. x .number) (c .rest) → Fits t rows j
+      fits j m = let (p, port, other, e) = c .over-forest j m in rw e at (spanned .over-forest p port other)
+
+      unequal : ¬ (above t (stepsFrom numbers 0 n) ≡ below t (stepsFrom numbers 0 n))
+      unequal = rw (c .steps) (loop-unequal rows formed k (c .rest) (rw (c .steps) at (c .way)) fits (first .conflict low))
+
+  -- the loop that it closes disagrees
+  pub loop-numbers : {numbers : List ℕ} {n : ℕ} → k < t .«link_count» → Closed t labels via k numbers n → LoopNumbers t numbers n
+  loop-numbers low c = record { loop = disagrees low c; few = c .few; directions = c .directions }
+
+  -- rows that fit every link
+  pub weighing : t .«link_count» ≤ k → Weighing t labels rows
+  weighing all = record {
+    well-formed = formed;
+    components = components;
+    port-rows = spanned .port-rows;
+    fits = λ j l. first .before j (omega (arith, l .below));
+  }

@@ -1,0 +1,4 @@
+-- The weights of a table, and what its ratios come to.
+pub mod LeastRows
+pub mod Weighed
+pub mod Ratios

@@ -1,0 +1,43 @@
+-- What working out the weights asks and ends with. Assumes nothing.
+use Prim.Native.Nat.{ℕ, _≤_, _<_}
+use mathlib.Core.Path.{_≡_}
+use mathlib.Core.Bool.{true, false}
+use mathlib.Core.List.{List}
+use lib.ListN.{getD, length}
+use Rattle.table.specs.Limits.{WellFormed}
+use Rattle.table.specs.declared.Table.{Table}
+use Rattle.ways.specs.Model.{IsPort, IsLink}
+use Rattle.ways.specs.Weights.{Weights}
+use Rattle.ways.specs.Labels.{Components}
+use Rattle.forest.specs.PortRows.{PortRows, Fits}
+use Rattle.weights.specs.declared.weights.Weighed.{Weighed}
+
+-- the most of a weight
+abbrev pub mostWeight : ℕ
+mostWeight = 10000
+
+-- rows that fit every link
+pub record Weighing (t : Table) (labels : List ℕ) (rows : List (List ℕ)) : Type 0 where
+  pub well-formed : WellFormed t
+  pub components : Components t labels
+  pub port-rows : PortRows rows
+  pub fits : (k : ℕ) → IsLink t k → Fits t rows k
+
+-- number 14: some weight passes 10,000
+pub record Overweight (t : Table) : Type 0 where
+  pub w : ℕ → ℕ
+  pub weights : Weights t w
+  pub at : ℕ
+  pub a-port : IsPort t at
+  pub passes : mostWeight < w at
+
+-- the weights, none above 10,000, and 0 past the ports
+pub record HasWeights (t : Table) (weights : List ℕ) : Type 0 where
+  pub long : length weights ≡ 64
+  pub are : Weights t (λ p. getD weights p 0)
+  pub small : (p : ℕ) → IsPort t p → getD weights p 0 ≤ mostWeight
+  pub rest : (p : ℕ) → t .«port_count» ≤ p → getD weights p 0 ≡ 0
+
+pub record IsWeighed (t : Table) (r : Weighed) : Type 0 where
+  pub within : r .within ≡ true → HasWeights t (r .weights)
+  pub passes : r .within ≡ false → Overweight t

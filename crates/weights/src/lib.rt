@@ -1,0 +1,3 @@
+// Ratios and weights of a table: numbers 13 and 14.
+pub mod ratios;
+mod weights;

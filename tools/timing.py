@@ -1,0 +1,135 @@
+"""The analysis of a model by exact rationals, apart from the proved code: number, port answers and buffer sizes of document 01.
+
+The least a/b comes from all simple cycles where they can be listed, and else from a bisection; both are other searches than the proved one."""
+from fractions import Fraction
+
+from ratios import components, weights
+
+# More cycles, or more steps of the search for them, are not listed.
+MOST_CYCLES = 3_000
+MOST_STEPS = 60_000
+# No part of a period passes this: 64 edges of 10,000,000.
+MOST_PART = 640_000_000
+
+
+class TooMany(Exception):
+    """The simple cycles are too many to list."""
+
+
+def simple_cycles(members, edges):
+    """(E, D) of each simple cycle; an edge is (from, to, E, D)."""
+    leaving = {p: [] for p in members}
+    for edge in edges:
+        leaving[edge[0]].append(edge)
+    found, steps = [], 0
+    for root in members:
+        stack = [(root, 0, 0, frozenset())]
+        while stack:
+            p, e, d, seen = stack.pop()
+            for _, q, edge_e, edge_d in leaving[p]:
+                steps += 1
+                if steps > MOST_STEPS or len(found) > MOST_CYCLES:
+                    raise TooMany
+                if q == root:
+                    found.append((e + edge_e, d + edge_d))
+                elif q > root and q not in seen:
+                    stack.append((q, e + edge_e, d + edge_d, seen | {q}))
+    return found
+
+
+def least_by_cycles(floor, cycles):
+    """The greatest limit, where no cycle is positive there."""
+    x = max([floor] + [Fraction(e, -d) for e, d in cycles if d < 0])
+    return x if all(e + d * x <= 0 for e, d in cycles) else None
+
+
+def longest(members, edges, x):
+    """The least starts at x, or (None, D) with D of a positive cycle."""
+    a, b = x.numerator, x.denominator
+    start, last = {p: 0 for p in members}, {}
+    for _ in members:
+        changed = None
+        for edge in edges:
+            p, q, e, d = edge
+            bound = start[p] + e * b + d * a
+            if bound > start[q]:
+                start[q], last[q], changed = bound, edge, q
+        if changed is None:
+            return start, None
+    # a port that still changes lies behind a positive cycle
+    p = changed
+    for _ in members:
+        p = last[p][0]
+    total, q = 0, p
+    while True:
+        total += last[q][3]
+        q = last[q][0]
+        if q == p:
+            return None, total
+
+
+def least_by_bisection(floor, members, edges):
+    """Below `low` a falling cycle is positive; from `high` on a rising one is, or `high` serves."""
+    starts, rise = longest(members, edges, floor)
+    if starts is not None:
+        return floor
+    if rise >= 0:
+        return None
+    low, high = floor, Fraction(MOST_PART + 1)
+    while high - low > Fraction(1, 2 * MOST_PART ** 2):
+        middle = (low + high) / 2
+        # short fractions keep the sums short
+        middle = middle.limit_denominator(2 ** 62)
+        starts, rise = longest(members, edges, middle)
+        if starts is None and rise < 0:
+            low = middle
+        else:
+            high = middle
+    x = ((low + high) / 2).limit_denominator(MOST_PART)
+    if not low < x <= high:
+        return None
+    starts, _ = longest(members, edges, x)
+    return x if starts is not None else None
+
+
+def analyse(model):
+    """(number, ports, buffers): ports are (component, weight, period, start), buffers (number, size); both empty but at number 0."""
+    number, w = weights(model)
+    if number != 0:
+        return number, [], []
+    component = components(model)
+    period, start = {}, {}
+    for root in sorted(set(component)):
+        members = [p for p in range(len(model.ports)) if component[p] == root]
+        edges = [(k.start, k.end, k.ticks, k.events * w[k.start])
+                 for k in model.links if k.events is not None and component[k.start] == root]
+        floor = max(Fraction(model.ports[p].den, model.ports[p].num * w[p]) for p in members)
+        try:
+            x = least_by_cycles(floor, simple_cycles(members, edges))
+        except TooMany:
+            x = least_by_bisection(floor, members, edges)
+        if x is None:
+            return 15, [], []
+        starts, _ = longest(members, edges, x)
+        for p in members:
+            period[p] = w[p] * x
+            start[p] = Fraction(starts[p], x.denominator)
+    sizes = []
+    for n, k in enumerate(model.links):
+        if k.events is None:
+            lack = start[k.start] + k.ticks - start[k.end]
+            sizes.append((n, max(0, -((-lack) // period[k.start]))))
+    return 0, [(component[p], w[p], period[p], start[p]) for p in range(len(model.ports))], sizes
+
+
+def printed(number, ports, buffers):
+    """The printed form of document 01; of 13 and 15 only the number."""
+    def fraction(x):
+        return f'{x.numerator}/{x.denominator}'
+
+    lines = [f'answer {number}']
+    for p, (component, weight, period, start) in enumerate(ports):
+        lines.append(f'port {p} component {component} weight {weight} period {fraction(period)} start {fraction(start)}')
+    for n, size in buffers:
+        lines.append(f'buffer {n} size {size}')
+    return '\n'.join(lines) + '\n'
