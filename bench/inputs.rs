@@ -416,7 +416,7 @@ pub fn workloads() -> Vec<Workload> {
         named("chain, ratios", "the same with weights from 1 to 60", &chain().weighted(&weights)),
         named("ring", "64 ports, 128 links: a ring and buffers along it; ratios 1", &ring()),
         named("ring, ratios", "the same with weights from 1 to 60", &ring().weighted(&weights)),
-        named("dense", "64 ports, 256 links: 224 connections, 32 buffers; ratios 1", &dense()),
+        named("dense", "64 ports, 256 links: 232 connections, 24 buffers; ratios 1", &dense()),
         named("dense, ratios", "the same with weights from 1 to 60", &dense().weighted(&weights)),
         named("many periods", "64 ports, 255 connections: 192 limits, each tried in turn", &many_periods()),
     ]

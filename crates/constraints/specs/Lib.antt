@@ -5,3 +5,4 @@ pub mod Searched
 pub mod NumberedLaws
 pub mod SliceLists
 pub mod SliceLaws
+pub mod LinkLaws

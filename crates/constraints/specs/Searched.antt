@@ -1,5 +1,5 @@
 -- What the search for the least period of a component says in the table's own terms. Assumes nothing.
-use Prim.Native.Nat.{ℕ, _≤_, _<_}
+use Prim.Native.Nat.{ℕ, _+_, _*_, _≤_, _<_}
 use mathlib.Core.Path.{_≡_}
 use mathlib.Core.Bool.{true, false}
 use mathlib.Core.List.{List, _++_, map}
@@ -18,7 +18,7 @@ use Rattle.period.specs.declared.search.Search.{Search}
 use Rattle.weights.specs.Weighed.{HasWeights}
 use Rattle.answers.specs.Constraints.{graphIn}
 use Rattle.answers.specs.Answers.{Floor, rate, cycle, IsFloor}
-use Rattle.constraints.specs.Slices.{limitsOf}
+use Rattle.constraints.specs.Slices.{limitsOf, linksOf}
 
 -- a table with its components and weights
 pub record Labelled (t : Table) (labels weights : List ℕ) : Type 0 where
@@ -32,12 +32,34 @@ pub record HasLimits (t : Table) (weights limits : List ℕ) : Type 0 where
   pub are : limits ≡ limitsOf t weights (t .«port_count») ++ rest
   pub long : 128 ≤ length limits
 
--- room for the connections, edges, rows, prices and starts of a component
-pub record WorkRoom (numbers edges rows costs starts : List ℕ) : Type 0 where
-  pub of-numbers : length numbers ≡ 256
-  pub of-edges : length edges ≡ 1536
-  pub of-rows : length rows ≡ 4160
-  pub of-costs : length costs ≡ 1024
+-- the numbers of the table's links are the whole slice
+pub record HasLinks (t : Table) (labels weights links : List ℕ) : Type 0 where
+  pub are : links ≡ linksOf t labels weights (t .«link_count»)
+
+-- the table's ports, labels, limits and links
+pub record InTable (t : Table) (labels weights : List ℕ) (total : ℕ) (limits links : List ℕ) : Type 0 where
+  pub labelled : Labelled t labels weights
+  pub total-is : total ≡ t .«port_count»
+  pub has-limits : HasLimits t weights limits
+  pub has-links : HasLinks t labels weights links
+
+-- they are those of some table
+pub record SomeTable (labels : List ℕ) (total : ℕ) (limits links : List ℕ) : Type 0 where
+  pub table : Table
+  pub weights : List ℕ
+  pub in-table : InTable table labels weights total limits links
+
+-- c names a component
+pub record OwnLabel (labels : List ℕ) (total c : ℕ) : Type 0 where
+  pub below : c < total
+  pub own : getD labels c 0 ≡ c
+
+-- room for the connections, edges, rows, prices and starts of a component of so many ports and links
+pub record WorkRoom (ports links : ℕ) (numbers edges rows costs starts : List ℕ) : Type 0 where
+  pub of-numbers : links ≤ length numbers
+  pub of-edges : 6 * links ≤ length edges
+  pub of-rows : 64 * ports + 64 ≤ length rows
+  pub of-costs : 4 * links ≤ length costs
   pub of-starts : length starts ≡ 64
 
 -- the connections of a cycle, by their numbers
@@ -69,3 +91,7 @@ module _ (t : Table) (weights : List ℕ) (c : ℕ) where
   pub record Searched (r : Search) (numbers starts : List ℕ) : Type 0 where
     pub settled : r .settled ≡ true → PeriodIn r starts
     pub blocked : r .settled ≡ false → BlockIn r numbers
+
+-- that is so in every table that these are the labels, limits and links of
+pub record SearchedIn (labels : List ℕ) (total : ℕ) (limits links : List ℕ) (c : ℕ) (r : Search) (numbers starts : List ℕ) : Type 0 where
+  pub of : (t : Table) (weights : List ℕ) → InTable t labels weights total limits links → Searched t weights c r numbers starts

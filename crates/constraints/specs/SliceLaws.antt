@@ -20,11 +20,11 @@ use Rattle.period.specs.Search.{Room}
 use Rattle.period.specs.Taken.{member-at}
 use Rattle.answers.specs.Constraints.{PortIn, ConnectionIn, graphIn}
 use Rattle.answers.specs.Answers.{IsComponent}
-use Rattle.constraints.specs.Slices.{portsIn, connectionsIn, limitsOf, edgeOf, edgesOf, WeightsSmall, AllLinks}
+use Rattle.constraints.specs.Slices.{portsIn, connectionsIn, limitsOf, edgeOf, edgesOf, WeightsSmall}
 use Rattle.constraints.specs.SliceLists.{port-below, port-label, port-in, few-ports, connection-below, connection-events, connection-label}
 use Rattle.constraints.specs.SliceLists.{connection-in, few-connections, limits-length, limits-at, edges-length, edges-at}
 use Rattle.constraints.specs.Numbered.{Numbered}
-use Rattle.constraints.specs.Searched.{Labelled, HasLimits, WorkRoom}
+use Rattle.constraints.specs.Searched.{Labelled, HasLimits, InTable, OwnLabel, WorkRoom}
 
 pub weights-small : {t : Table} {weights : List ℕ} → HasWeights t weights → WeightsSmall weights
 weights-small {t} {weights} h = record {
@@ -33,6 +33,13 @@ weights-small {t} {weights} h = record {
       (λ (l : t .«port_count» ≤ p). omega (arith, h .rest p l))
       (lt-or-le p (t .«port_count»));
 }
+
+-- a port that is its own label names its component
+pub own-component : {t : Table} {labels weights limits links : List ℕ} {total c : ℕ} → InTable t labels weights total limits links → OwnLabel labels total c
+    → IsComponent t c
+own-component {t} {c = c} i own =
+    let port : IsPort t c = record { below = omega (arith, own .below, i .total-is) } in
+    record { a-port = port; lowest = rw (own .own) at (i .labelled .components .each c port) }
 
 -- a part of a link or a port times a weight
 pub weighed-most : {x w : ℕ} → x ≤ 1000 → w ≤ mostWeight → x * w ≤ mostPart
@@ -47,9 +54,6 @@ module _ (t : Table) (labels weights : List ℕ) (c : ℕ) where
 
   abbrev edges : List ℕ
   edges = edgesOf t weights connections
-
-  pub all-links : AllLinks t connections
-  all-links = record { links = λ k m. record { below = connection-below t labels c (t .«link_count») m } }
 
   -- as many edges as connections
   pub edge-count : length edges / 6 ≡ length connections
@@ -176,9 +180,10 @@ module _ (t : Table) (labels weights : List ℕ) (c : ℕ) where
         small-limits = small-limits;
       }
 
-    pub slices-room : {numbers work rows costs starts : List ℕ} → WorkRoom numbers work rows costs starts → Room ports edges rows costs starts
-    slices-room r = record {
-      rows-room = omega (arith, few-ports labels c (t .«port_count»), l .well-formed .few-ports, r .of-rows);
-      costs-room = omega (arith, edge-count, few-connections t labels c (t .«link_count»), l .well-formed .few-links, r .of-costs);
-      starts-room = r .of-starts;
-    }
+  pub slices-room : {numbers work rows costs starts : List ℕ} → WorkRoom (t .«port_count») (t .«link_count») numbers work rows costs starts
+      → Room ports edges rows costs starts
+  slices-room r = record {
+    rows-room = omega (arith, few-ports labels c (t .«port_count»), r .of-rows);
+    costs-room = omega (arith, edge-count, few-connections t labels c (t .«link_count»), r .of-costs);
+    starts-room = r .of-starts;
+  }

@@ -1,4 +1,4 @@
--- What stands in the lists of a component, and where. Assumes nothing.
+-- What stands in the lists of a component and in the list of links, and where. Assumes nothing.
 use Prim.Native.Nat.{ℕ, zero, suc, _+_, _*_, _≤_, _<_}
 use mathlib.Core.Path.{_≡_, refl, ap, _∙_}
 use mathlib.Core.Logic.{⊎-elim}
@@ -7,7 +7,7 @@ use mathlib.Core.List.{List, [], _∷_, _++_, List·Memᴰ·head as here}
 use mathlib.Core.List.{List·Memᴰ·not-nil as not-nil, List·Memᴰ·append-cases as append-cases, List·Memᴰ·eq-of-singleton as eq-of-singleton}
 use mathlib.Core.List.{Memᴰ·append-left, Memᴰ·append-right}
 use native.Mathlib.Omega.{arith}
-use native.Mathlib.Nat.{not-suc-le-zero, le-of-suc-le-suc}
+use native.Mathlib.Nat.{not-suc-le-zero, le-of-suc-le-suc, mul-le-mul-left}
 use borrow.Author.Tests.{eqb-true, eq-eqb}
 use lib.Dec.{eqb}
 use lib.ListN.{length, getD, length-append, List·getD-append}
@@ -16,7 +16,7 @@ use Rattle.rounds.specs.Lists.{_∈_, lt-or-le}
 use Rattle.table.specs.Limits.{port, link}
 use Rattle.table.specs.declared.Table.{Table}
 use Rattle.ways.specs.Model.{from}
-use Rattle.constraints.specs.Slices.{portsIn, connectionsIn, limitsOf, edgeOf, edgesOf}
+use Rattle.constraints.specs.Slices.{portsIn, connectionsIn, limitsOf, edgeOf, edgesOf, ownerOf, linksOf}
 
 -- ---- a list that takes in each of the numbers below n, or leaves it out
 module _ (list one : ℕ → List ℕ) (none : list 0 ≡ []) (more : (n : ℕ) → list (suc n) ≡ list n ++ one n) where
@@ -112,6 +112,24 @@ module _ (t : Table) (labels : List ℕ) (c : ℕ) where
   few-connections = few-listed (connectionsIn t labels c) connectionAt refl (λ n. refl)
       (λ n. few-cond-not (sentAt n) (link t n .buffer) (few-cond (eqb (getD labels (from t n) 0) c) n))
 
+-- ---- a list of rows of one width
+module _ (list row : ℕ → List ℕ) (width : ℕ) (none : list 0 ≡ []) (more : (n : ℕ) → list (suc n) ≡ list n ++ row n)
+    (wide : (n : ℕ) → length (row n) ≡ width) where
+  rows-length : (n : ℕ) → length (list n) ≡ width * n
+  rows-length zero = rw none (omega arith)
+  rows-length (suc n) = rw (more n) (length-append (list n) (row n) ∙ omega (arith, rows-length n, wide n))
+
+  rows-at : (n k i : ℕ) → k < n → i < width → getD (list n) (width * k + i) 0 ≡ getD (row k) i 0
+  rows-at zero k i l m = absurd (not-suc-le-zero l)
+  rows-at (suc n) k i l m = rw (more n) (⊎-elim
+      (λ (h : k < n).
+      List·getD-append (list n) (row n) 0 (width * k + i) (omega (arith, rows-length n, mul-le-mul-left width h)) ∙ rows-at n k i h m)
+      (λ (h : n ≤ k).
+      let e : n ≡ k = omega arith in
+      let at : width * k + i ≡ length (list n) + i = omega (arith, rows-length n, ap (λ (j : ℕ). width * j) e) in
+      rw at (getD-append-add (list n) (row n) i 0 ∙ ap (λ (j : ℕ). getD (row j) i 0) e))
+      (lt-or-le k n))
+
 -- ---- limits and edges
 module _ (t : Table) (weights : List ℕ) where
   abbrev limitOf : ℕ → List ℕ
@@ -119,19 +137,11 @@ module _ (t : Table) (weights : List ℕ) where
 
   pub limits-length : (n : ℕ) → length (limitsOf t weights n) ≡ 2 * n
   unfolding limitsOf
-  limits-length zero = refl
-  limits-length (suc n) = length-append (limitsOf t weights n) (limitOf n) ∙ omega (arith, limits-length n)
+  limits-length = rows-length (limitsOf t weights) limitOf 2 refl (λ n. refl) (λ n. refl)
 
   pub limits-at : (n p i : ℕ) → p < n → i < 2 → getD (limitsOf t weights n) (2 * p + i) 0 ≡ getD (limitOf p) i 0
   unfolding limitsOf
-  limits-at zero p i l m = absurd (not-suc-le-zero l)
-  limits-at (suc n) p i l m = ⊎-elim
-      (λ (h : p < n). List·getD-append (limitsOf t weights n) (limitOf n) 0 (2 * p + i) (omega (arith, limits-length n)) ∙ limits-at n p i h m)
-      (λ (h : n ≤ p).
-      let e : n ≡ p = omega arith in
-      let at : 2 * p + i ≡ length (limitsOf t weights n) + i = omega (arith, limits-length n) in
-      rw at (getD-append-add (limitsOf t weights n) (limitOf n) i 0 ∙ ap (λ (j : ℕ). getD (limitOf j) i 0) e))
-      (lt-or-le p n)
+  limits-at = rows-at (limitsOf t weights) limitOf 2 refl (λ n. refl) (λ n. refl)
 
   pub edges-length : (ks : List ℕ) → length (edgesOf t weights ks) ≡ 6 * length ks
   unfolding edgesOf
@@ -152,3 +162,16 @@ module _ (t : Table) (weights : List ℕ) where
   edges-at (k ∷ ks) (suc i) j l m =
       let e : 6 * suc i + j ≡ 6 + (6 * i + j) = omega arith in
       rw e (getD-append-add (edgeOf t weights k) (edgesOf t weights ks) (6 * i + j) 0 ∙ edges-at ks i j (le-of-suc-le-suc l) m)
+
+-- ---- links
+module _ (t : Table) (labels weights : List ℕ) where
+  abbrev linkOf : ℕ → List ℕ
+  linkOf k = ownerOf (getD labels (from t k) 0) (link t k .buffer) ∷ edgeOf t weights k
+
+  pub links-length : (n : ℕ) → length (linksOf t labels weights n) ≡ 7 * n
+  unfolding linksOf
+  links-length = rows-length (linksOf t labels weights) linkOf 7 refl (λ n. refl) (λ n. refl)
+
+  pub links-at : (n k i : ℕ) → k < n → i < 7 → getD (linksOf t labels weights n) (7 * k + i) 0 ≡ getD (linkOf k) i 0
+  unfolding linksOf
+  links-at = rows-at (linksOf t labels weights) linkOf 7 refl (λ n. refl) (λ n. refl)

@@ -1,11 +1,17 @@
 -- A prime factor of a number up to 1,000. Assumes nothing.
 use Prim.Native.Nat.{ℕ, _*_, _/_, _≤_, _<_}
 use mathlib.Core.Path.{_≡_}
+use mathlib.Core.List.{List}
 use native.Mathlib.Omega.{arith}
 use Rattle.fraction.specs.Divides.{divides-≤, quotient-is}
 use Rattle.fraction.specs.Prime.{Least, DivisorAboveOne, least-divisor-prime}
-use Rattle.exponents.specs.Divisors.{FromTwo}
-use Rattle.exponents.specs.Primes.{primeAt, placeOf, Place, prime-place}
+use Rattle.exponents.specs.Divisors.{FromTwo, leastDivisors}
+use Rattle.exponents.specs.Primes.{places, primeAt, placeOf, Place, prime-place}
+
+-- the two tables that a factor is looked up in
+pub record Lent (divisors list : List ℕ) : Type 0 where
+  pub divisors-are : divisors ≡ leastDivisors
+  pub places-are : list ≡ places
 
 -- p is a prime up to 1,000, its place is i, and it divides n
 pub record IsFactor (n p i : ℕ) : Type 0 where

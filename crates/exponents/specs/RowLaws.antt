@@ -1,15 +1,17 @@
 -- What a row and the number that it stands for say of each other. Assumes nothing.
-use Prim.Native.Nat.{ℕ, _*_, _<_}
+use Prim.Native.Nat.{ℕ, _*_, _-_, _≤_, _<_}
 use mathlib.Core.Path.{_≡_, sym, subst, _∙_}
 use mathlib.Core.List.{List}
+use native.Mathlib.Nat.{eq-of-mul-eq-mul-right}
+use native.Mathlib.Decide.{decLt}
 use native.Mathlib.Omega.{arith}
 use lib.ListN.{length, getD}
 use lib.Seq.{ext-getD}
-use Rattle.fraction.specs.Divides.{Divides}
+use Rattle.fraction.specs.Divides.{Divides, divides-≤}
 use Rattle.fraction.specs.Prime.{IsPrime}
-use Rattle.fraction.specs.Exponents.{exponents-unique}
+use Rattle.fraction.specs.Exponents.{powers, exponents-unique}
 use Rattle.exponents.specs.Primes.{primeAt, listed, distinct-primes}
-use Rattle.exponents.specs.Row.{rowValue, Within, Minus}
+use Rattle.exponents.specs.Row.{rowValue, Multiplied, Within, excess}
 use Rattle.exponents.specs.Powers.{powers-sum, powers-positive, power-divides, PrimeIn, prime-in-powers}
 
 -- equal numbers have equal rows
@@ -39,7 +41,28 @@ exponent-positive row i l d =
     sym (listed (found .place) (found .below) .place) ∙ rw (found .is) (listed i l .place) in
     subst (λ (k : ℕ). 0 < getD row k 0) same (found .some)
 
-pub minus-value : {a b r : List ℕ} → Within b a → Minus a b r → rowValue r * rowValue b ≡ rowValue a
+-- the excess over a row times that row is the whole
+pub excess-value : (a b : List ℕ) → Within b a → powers primeAt (excess b a) 168 * rowValue b ≡ rowValue a
 unfolding rowValue
-minus-value {a} {b} {r} w m =
-    sym (powers-sum primeAt (λ (k : ℕ). getD r k 0) (λ (k : ℕ). getD b k 0) 168 (λ k l. omega (arith, w .place k l, m .place k l)))
+excess-value a b w =
+    sym (powers-sum primeAt (excess b a) (λ (k : ℕ). getD b k 0) {g = λ k. getD a k 0} 168 (λ k l. omega (arith, w .place k l)))
+
+-- a prime above n has the exponent that it had
+pub multiplied-above : {row r : List ℕ} {n : ℕ} → 1 ≤ n → Multiplied row n r → (i : ℕ) → i < 168 → n < primeAt i
+    → getD r i 0 ≡ getD row i 0
+unfolding rowValue
+multiplied-above {row} {r} {n} some m i l high = decided (decLt (getD row i 0) (getD r i 0))
+  where
+    more : ℕ → ℕ
+    more k = getD r k 0 - getD row k 0
+
+    is : powers primeAt more 168 ≡ n
+    is =
+        let sum = powers-sum primeAt more (λ (k : ℕ). getD row k 0) {g = λ k. getD r k 0} 168 (λ k b. omega (arith, m .grows k b)) in
+        eq-of-mul-eq-mul-right (rowValue row) (row-positive row) (powers primeAt more 168) n (sym sum ∙ m .value ∙ omega arith)
+
+    decided : Dec (getD row i 0 < getD r i 0) → getD r i 0 ≡ getD row i 0
+    decided (yes h) =
+        let divides : Divides (primeAt i) n = rw is at (power-divides primeAt more 168 i l (omega arith)) in
+        absurd (omega (arith, divides-≤ divides (omega arith)))
+    decided (no h) = omega (arith, m .grows i l)

@@ -1,9 +1,9 @@
 // The numbers from 1 to 1,000 as rows of prime exponents.
 ghost use mathlib.Core.Path.{_≡_};
 
-mod divisors;
+pub mod divisors;
 mod factor;
-mod primes;
+pub mod primes;
 pub mod product;
 pub mod row;
 

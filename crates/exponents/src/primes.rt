@@ -1,7 +1,7 @@
 // The primes up to 1,000 and their places, by tables.
 ghost use mathlib.Core.Path.{_≡_};
 ghost use Prim.Native.Nat.{_≤_};
-ghost use Rattle.exponents.specs.Primes.{primes, placeOf};
+ghost use Rattle.exponents.specs.Primes.{primes, places, placeOf};
 use crate::wide;
 
 // The 168 primes in order.
@@ -1188,11 +1188,19 @@ pub fn all() -> [u16; 168]
     PRIMES
 }
 
+// The place of each prime.
+pub fn all_places() -> [u16; 1001]
+    ensures { λ r. ⌜ r ≡ places ⌝ }
+{
+    PLACE
+}
+
 // The place of a prime.
-pub fn place(p: u64) -> usize
+pub fn place(list: &[u16], p: u64) -> usize
+    requires { ⌜ now list ≡ places ⌝ }
     requires { ⌜ p ≤ 1000 ⌝ }
     ensures { λ r. ⌜ r ≡ placeOf p ⌝ }
 {
     let i = p as usize;
-    wide(PLACE[i]) as usize
+    wide(list[i]) as usize
 }

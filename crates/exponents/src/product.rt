@@ -1,9 +1,12 @@
 // The number that a row stands for, multiplied out up to a bound.
 ghost use mathlib.Core.Path.{_≡_};
 ghost use Prim.Native.Nat.{_*_, _^_, min};
-ghost use Rattle.exponents.specs.Row.{rowValue};
+ghost use mathlib.Core.List.{[]};
+ghost use lib.ListN.{getD};
+ghost use Rattle.fraction.specs.Exponents.{powers};
+ghost use Rattle.exponents.specs.Primes.{primes, primeAt};
+ghost use Rattle.exponents.specs.Row.{RowAt, Within, SameAbove, excess};
 ghost use Rattle.exponents.specs.Product.{Factors};
-use crate::primes;
 use crate::row::Row;
 use crate::wide;
 
@@ -21,15 +24,30 @@ fn times_power(x: u64, p: u64, e: u16) -> u64
     if product <= 10000 { product } else { 10001 }
 }
 
-// The product of the row's prime powers, or 10,001 where that is less.
-pub fn product_within(row: Row) -> u64
-    ensures { λ r. ⌜ r ≡ min (rowValue row) 10001 ⌝ }
+// The number that row p of `rows` stands for, divided by that of row c of `least`, or 10,001 where that is less. Above `most` the two rows
+// are equal.
+pub fn quotient_within(
+    rows: &[Row; 64],
+    p: usize,
+    least: &[Row; 64],
+    c: usize,
+    most: u64,
+    all: &[u16],
+) -> u64
+    requires { ⌜ now all ≡ primes ⌝ }
+    requires { ⌜ (RowAt (now rows) p) × (RowAt (now least) c) ⌝ }
+    requires { ⌜ Within (getD (now least) c []) (getD (now rows) p []) ⌝ }
+    requires { ⌜ SameAbove (getD (now least) c []) (getD (now rows) p []) most ⌝ }
+    ensures { λ r. ⌜ r ≡ min (powers primeAt (excess (getD (now (least .entry)) c []) (getD (now (rows .entry)) p [])) 168) 10001 ⌝ }
 {
-    let all = primes::all();
     let mut product: u64 = 1;
     let mut i: usize = 0;
     while i < 168 && product <= 10000 {
-        product = times_power(product, wide(all[i]), row[i]);
+        let prime = wide(all[i]);
+        if most < prime {
+            return product;
+        }
+        product = times_power(product, prime, rows[p][i] - least[c][i]);
         i = i + 1;
     }
     product

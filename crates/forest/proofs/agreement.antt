@@ -1,3 +1,5 @@
 -- What the proofs on agreement use.
 mod Compared
+mod Parallels
+mod TreeLinks
 mod Scanned

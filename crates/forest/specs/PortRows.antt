@@ -3,10 +3,11 @@ use Prim.Native.Nat.{ℕ, _+_, _*_, _≤_, _<_}
 use mathlib.Core.Path.{_≡_}
 use mathlib.Core.Logic.{_≢_}
 use mathlib.Core.List.{List, []}
-use lib.ListN.{length, getD}
+use lib.ListN.{length, getD, replicate}
+use Rattle.exponents.specs.Primes.{primeAt}
 use Rattle.exponents.specs.Row.{rowValue}
 use Rattle.table.specs.declared.Table.{Table}
-use Rattle.ways.specs.Model.{IsPort, from, to, num, den}
+use Rattle.ways.specs.Model.{IsPort, IsLink, from, to, num, den}
 use Rattle.forest.specs.Forest.{Forest}
 
 abbrev pub rowOf : List (List ℕ) → ℕ → List ℕ
@@ -20,6 +21,10 @@ valueOf rows p = rowValue (rowOf rows p)
 pub record Fits (t : Table) (rows : List (List ℕ)) (k : ℕ) : Type 0 where
   pub fits : valueOf rows (to t k) * num t k ≡ valueOf rows (from t k) * den t k
 
+-- the row of exponent zero, which is 1,000
+abbrev pub zeroRow : List ℕ
+zeroRow = replicate 168 1000
+
 -- every exponent of a row is within 9 d of 1,000, which stands for exponent zero
 pub record Near (row : List ℕ) (d : ℕ) : Type 0 where
   pub long : length row ≡ 168
@@ -31,8 +36,23 @@ pub record PortRows (rows : List (List ℕ)) : Type 0 where
   pub all : length rows ≡ 64
   pub near : (p : ℕ) → p < 64 → Near (rowOf rows p) 64
 
+-- no part of a ratio other than 1 is above m
+pub record MostPart (t : Table) (m : ℕ) : Type 0 where
+  pub num-most : (k : ℕ) → IsLink t k → num t k ≢ den t k → num t k ≤ m
+  pub den-most : (k : ℕ) → IsLink t k → num t k ≢ den t k → den t k ≤ m
+
+-- in every row a prime above m has the exponent zero, which is 1,000
+pub record RowsUpTo (rows : List (List ℕ)) (m : ℕ) : Type 0 where
+  pub zero : (p i : ℕ) → p < 64 → i < 168 → m < primeAt i → getD (rowOf rows p) i 0 ≡ 1000
+
+-- the rows fit the link over which each port but the lowest of its component was reached
+pub record OverForest (t : Table) (labels via : List ℕ) (rows : List (List ℕ)) : Type 0 where
+  pub a-link : (p : ℕ) → IsPort t p → getD labels p 0 ≢ p → IsLink t (getD via p 0)
+  pub fits : (p : ℕ) → IsPort t p → getD labels p 0 ≢ p → Fits t rows (getD via p 0)
+
 -- a forest whose links the rows fit
 pub record Spanned (t : Table) (labels reach via : List ℕ) (rows : List (List ℕ)) : Type 0 where
   pub forest : Forest t labels reach via
   pub port-rows : PortRows rows
-  pub over-forest : (p : ℕ) → IsPort t p → getD labels p 0 ≢ p → Fits t rows (getD via p 0)
+  pub over-forest : OverForest t labels via rows
+  pub up-to : (m : ℕ) → MostPart t m → RowsUpTo rows m

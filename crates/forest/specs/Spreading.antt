@@ -1,9 +1,10 @@
 -- A forest while it spreads over the links: its ports in the order reached, and what one link and one pass do. Assumes nothing.
 use Prim.Native.Nat.{ℕ, _+_, _*_, _≤_, _<_, min}
 use mathlib.Core.Path.{_≡_}
-use mathlib.Core.Logic.{_⊎_}
+use mathlib.Core.Logic.{_⊎_, _≢_}
 use mathlib.Core.List.{List}
-use lib.ListN.{length, getD, set}
+use lib.ListN.{length, getD, set, replicate}
+use Rattle.exponents.specs.Primes.{primeAt}
 use Rattle.exponents.specs.Row.{rowValue}
 use Rattle.rounds.specs.Lists.{sum}
 use Rattle.table.specs.Limits.{PartFits}
@@ -11,7 +12,7 @@ use Rattle.table.specs.declared.Table.{Table}
 use Rattle.ways.specs.Model.{IsPort, IsLink, from, to}
 use Rattle.ways.specs.Ways.{Component}
 use Rattle.forest.specs.Forest.{Ends}
-use Rattle.forest.specs.PortRows.{rowOf, Fits, Near}
+use Rattle.forest.specs.PortRows.{rowOf, Fits, Near, MostPart, RowsUpTo}
 use Rattle.forest.specs.declared.spanning.Forest.{Forest}
 
 -- count ports are reached, each with a number of its own up to count
@@ -21,14 +22,18 @@ pub record Numbered (reach : List ℕ) (count : ℕ) : Type 0 where
   pub within : (p : ℕ) → getD reach p 0 ≤ count
   pub order : (p q : ℕ) → 0 < getD reach p 0 → getD reach p 0 ≡ getD reach q 0 → p ≡ q
 
+-- the ports' numbers, the links over which they were reached, and how many are
+abbrev pub forestOf : List ℕ → List ℕ → ℕ → Forest
+forestOf reach via count = record { reach = reach; via = via; count = count }
+
+-- no port is reached
+pub record Unreached (reach via : List ℕ) : Type 0 where
+  pub no-reach : reach ≡ replicate 64 0
+  pub no-via : via ≡ replicate 64 0
+
 -- p is reached next, over link k
 abbrev pub entered : Forest → ℕ → ℕ → Forest
 entered f p k = record { reach = set (f .reach) p (f .count + 1); via = set (f .via) p k; count = f .count + 1 }
-
--- at most 64 ports are reached, and p is below 64
-pub record Enterable (f : Forest) (p : ℕ) : Type 0 where
-  pub few : f .count ≤ 64
-  pub below : p < 64
 
 -- at most 64 ports
 pub record Rootable (n : ℕ) : Type 0 where
@@ -64,6 +69,7 @@ module _ (t : Table) where
       pub root-first : (p c : ℕ) → IsPort t p → Component t p c → 0 < getD (f .reach) p 0
           → getD (f .reach) c 0 ≤ getD (f .reach) p 0
       pub child : (p : ℕ) → IsPort t p → 0 < getD (f .reach) p 0 → ¬ Component t p p → Child p
+      pub up-to : (m : ℕ) → MostPart t m → RowsUpTo rows m
 
   -- no link below n has just one end reached
   pub record Closed (n : ℕ) (f : Forest) : Type 0 where
@@ -77,27 +83,39 @@ module _ (t : Table) where
     pub grown : f .count ≤ f′ .count
     pub closed : f′ .count ≡ f .count → Closed n f′
 
-module _ (f : Forest) (rows : List (List ℕ)) (p q : ℕ) where
-  -- what following a link from p to q asks: the row of p has room for both parts of the ratio
-  pub record Followable (times by : ℕ) : Type 0 where
-    pub few : f .count ≤ 64
+-- ---- one link, from its end p to its end q
+module _ (rows : List (List ℕ)) (p q : ℕ) where
+  -- the row of p has room for both parts of the ratio
+  pub record Spreadable (times by : ℕ) : Type 0 where
     pub one : p < 64
     pub other : q < 64
     pub times-fits : PartFits times
     pub by-fits : PartFits by
     pub near : Near (rowOf rows p) 64
 
-  -- q is reached from p over link k
-  pub record Extended (k times by : ℕ) (f′ : Forest) (rows′ : List (List ℕ)) : Type 0 where
-    pub reached : 0 < getD (f .reach) p 0
-    pub new : getD (f .reach) q 0 ≡ 0
-    pub made : f′ ≡ entered f q k
+  -- q has the row of p times `times`, divided by `by`
+  pub record RowMade (times by : ℕ) (rows′ : List (List ℕ)) : Type 0 where
     pub row : List ℕ
     pub rows-made : rows′ ≡ set rows q row
     pub long : length row ≡ 168
     pub value : rowValue row * by ≡ rowValue (rowOf rows p) * times
     pub low : (i : ℕ) → i < 168 → getD (rowOf rows p) i 0 ≤ getD row i 0 + 9
     pub high : (i : ℕ) → i < 168 → getD row i 0 ≤ getD (rowOf rows p) i 0 + 9
+    -- a prime above both parts has the exponent that it had
+    pub above : (m i : ℕ) → (times ≢ by → times ≤ m) → (times ≢ by → by ≤ m) → i < 168 → m < primeAt i
+        → getD row i 0 ≡ getD (rowOf rows p) i 0
+
+module _ (f : Forest) (rows : List (List ℕ)) (p q : ℕ) where
+  pub record Followable (times by : ℕ) : Type 0 where
+    pub few : f .count ≤ 64
+    pub spreadable : Spreadable rows p q times by
+
+  -- q is reached from p over link k
+  pub record Extended (k times by : ℕ) (f′ : Forest) (rows′ : List (List ℕ)) : Type 0 where
+    pub reached : 0 < getD (f .reach) p 0
+    pub new : getD (f .reach) q 0 ≡ 0
+    pub made : f′ ≡ entered f q k
+    pub row-made : RowMade rows p q times by rows′
 
   -- p is not reached, or q is
   pub record Unchanged (f′ : Forest) (rows′ : List (List ℕ)) : Type 0 where

@@ -1,34 +1,132 @@
 // Whether rows of exponents fit the ratios of the links.
+ghost use Rattle.exponents.specs.Factor.{Lent};
 ghost use Rattle.table.specs.Limits.{WellFormed, LinkFits};
-ghost use Rattle.forest.specs.PortRows.{PortRows};
-ghost use Rattle.forest.specs.Agreement.{FitsRows, FirstConflict};
+ghost use Prim.Native.Nat.{_<_};
+ghost use mathlib.Core.Path.{_≡_};
+ghost use mathlib.Core.Logic.{_⊎_};
+ghost use Rattle.forest.specs.PortRows.{PortRows, OverForest};
+ghost use Rattle.forest.specs.Agreement.{FitsRows, IsOver, Parallel, KnownToFit, FirstConflict};
 use exponents::row;
 use table::Link;
 use table::Table;
 
+// The link over which a port was reached, if one was.
+pub struct Over {
+    pub reached: bool,
+    pub link: usize,
+}
+
 // Whether the rows of a link's ends fit its ratio.
-fn fits(l: Link, rows: &[[u16; 168]; 64]) -> bool
+fn fits(l: Link, rows: &[[u16; 168]; 64], divisors: &[u16], places: &[u16]) -> bool
     requires { ⌜ LinkFits 64 l ⌝ }
     requires { ⌜ PortRows (now rows) ⌝ }
+    requires { ⌜ Lent (now divisors) (now places) ⌝ }
     ensures { λ r. ⌜ FitsRows l (now (rows .entry)) r ⌝ }
 {
     let from = l.from as usize;
     let to = l.to as usize;
-    let a = row::multiplied(rows[to], l.num as u64);
-    let b = row::multiplied(rows[from], l.den as u64);
-    row::same(a, b)
+    if l.num == l.den {
+        return row::same_rows(rows, to, from);
+    }
+    let row = row::scaled(rows[to], l.num as u64, l.den as u64, divisors, places);
+    row::same(row, rows[from])
 }
 
-// The first link that the rows do not fit, or the number of links.
-pub fn conflict(t: Table, rows: &[[u16; 168]; 64]) -> usize
+// The end of a link that was reached later.
+fn later(reach: &[usize; 64], p: usize, q: usize) -> usize
+    requires { ⌜ (p < 64) × (q < 64) ⌝ }
+    ensures { λ r. ⌜ (r ≡ p) ⊎ (r ≡ q) ⌝ }
+{
+    if reach[p] < reach[q] { q } else { p }
+}
+
+// The link over which port p was reached; `other` stands for none, where p is the lowest port of its component.
+fn tree_link(labels: &[usize; 64], via: &[usize; 64], p: usize, other: usize) -> Over
+    requires { ⌜ p < 64 ⌝ }
+    ensures { λ r. ⌜ IsOver (now (labels .entry)) (now (via .entry)) p other r ⌝ }
+{
+    if labels[p] == p {
+        return Over {
+            reached: false,
+            link: other,
+        };
+    }
+    Over {
+        reached: true,
+        link: via[p],
+    }
+}
+
+// Whether l joins the ports that m joins, at the same ratio: rows that fit m then fit l.
+fn parallel(l: Link, m: Link) -> bool
+    requires { ⌜ LinkFits 64 l ⌝ }
+    requires { ⌜ LinkFits 64 m ⌝ }
+    ensures { λ r. ⌜ Parallel l m r ⌝ }
+{
+    let num = l.num as u64;
+    let den = l.den as u64;
+    if l.from == m.from {
+        if l.to == m.to {
+            return num * m.den as u64 == den * m.num as u64;
+        }
+    }
+    if l.from == m.to {
+        if l.to == m.from {
+            return num * m.num as u64 == den * m.den as u64;
+        }
+    }
+    false
+}
+
+// Whether the rows fit link l. Where they fit m, as `known` says, and l is parallel to it, they are not compared.
+fn agrees(
+    l: Link,
+    known: bool,
+    m: Link,
+    rows: &[[u16; 168]; 64],
+    divisors: &[u16],
+    places: &[u16],
+) -> bool
+    requires { ⌜ LinkFits 64 l ⌝ }
+    requires { ⌜ LinkFits 64 m ⌝ }
+    requires { ⌜ PortRows (now rows) ⌝ }
+    requires { ⌜ KnownToFit m (now rows) known ⌝ }
+    requires { ⌜ Lent (now divisors) (now places) ⌝ }
+    ensures { λ r. ⌜ FitsRows l (now (rows .entry)) r ⌝ }
+{
+    if known {
+        if parallel(l, m) {
+            return true;
+        }
+    }
+    fits(l, rows, divisors, places)
+}
+
+// The first link that the rows do not fit, or the number of links. One that is parallel to the forest's link between its ends, as that
+// link itself is, is not compared.
+pub fn conflict(
+    t: Table,
+    labels: &[usize; 64],
+    reach: &[usize; 64],
+    via: &[usize; 64],
+    rows: &[[u16; 168]; 64],
+    divisors: &[u16],
+    places: &[u16],
+) -> usize
     requires { ⌜ WellFormed t ⌝ }
     requires { ⌜ PortRows (now rows) ⌝ }
+    requires { ⌜ OverForest t (now labels) (now via) (now rows) ⌝ }
+    requires { ⌜ Lent (now divisors) (now places) ⌝ }
     ensures { λ r. ⌜ FirstConflict t (now (rows .entry)) r ⌝ }
 {
     let mut k: usize = 0;
     while k < t.link_count {
         let l = t.links[k];
-        if !fits(l, rows) {
+        let at = later(reach, l.from as usize, l.to as usize);
+        let tree = tree_link(labels, via, at, k);
+        let over = tree.link;
+        let m = t.links[over];
+        if !agrees(l, tree.reached, m, rows, divisors, places) {
             return k;
         }
         k = k + 1;

@@ -1,9 +1,11 @@
 // A spanning forest over the links of a table, with a row of prime exponents for each port.
 ghost use Rattle.table.specs.Limits.{WellFormed};
 ghost use Rattle.ways.specs.Labels.{Components};
-ghost use Rattle.forest.specs.PortRows.{Spanned};
-ghost use Rattle.forest.specs.Spreading.{entered, Enterable, Rootable, Rooted, Spreading, Followable, Followed, Passed};
 ghost use mathlib.Core.Path.{_≡_};
+ghost use lib.ListN.{replicate};
+ghost use Rattle.forest.specs.PortRows.{zeroRow, Spanned};
+ghost use Rattle.forest.specs.Spreading.{forestOf, Unreached, Rootable, Rooted, Spreading, Spreadable, RowMade, Followable, Followed, Passed};
+ghost use Rattle.exponents.specs.Factor.{Lent};
 use exponents::row;
 use table::Table;
 
@@ -15,49 +17,68 @@ pub struct Forest {
 }
 
 // From the lowest port of each component every other port is reached over one link; its row follows from that of the link's other end.
-pub fn spanned(t: Table, labels: [usize; 64], rows: &mut [[u16; 168]; 64]) -> Forest
+// At first each row is that of exponent zero.
+// The last two slices are the tables that factors are looked up in.
+pub fn spanned(
+    t: Table,
+    labels: [usize; 64],
+    rows: &mut [[u16; 168]; 64],
+    divisors: &[u16],
+    places: &[u16],
+) -> Forest
     requires { ⌜ WellFormed t ⌝ }
     requires { ⌜ Components t labels ⌝ }
+    requires { ⌜ now rows ≡ replicate 64 zeroRow ⌝ }
+    requires { ⌜ Lent (now divisors) (now places) ⌝ }
     ensures { λ r. ⌜ Spanned t labels (r .reach) (r .via) (now (rows .exit)) ⌝ }
 {
-    *rows = [[1000u16; 168]; 64];
-    let mut f = roots(t.port_count, labels);
+    let mut reach = [0usize; 64];
+    let mut via = [0usize; 64];
+    let mut count = roots(t.port_count, labels, &mut reach, &mut via);
     loop {
-        let before = f.count;
-        f = pass(t, f, rows);
-        if f.count == before {
-            return f;
+        let before = count;
+        count = pass(t, before, &mut reach, &mut via, rows, divisors, places);
+        if count == before {
+            return Forest { reach, via, count };
         }
     }
 }
 
-// The lowest port of each component, reached over no link.
-fn roots(ports: usize, labels: [usize; 64]) -> Forest
+// The lowest port of each component, reached over no link. Answers how many these are.
+fn roots(ports: usize, labels: [usize; 64], reach: &mut [usize; 64], via: &mut [usize; 64]) -> usize
     requires { ⌜ Rootable ports ⌝ }
-    ensures { λ r. ⌜ Rooted ports labels r ⌝ }
+    requires { ⌜ Unreached (now reach) (now via) ⌝ }
+    ensures { λ r. ⌜ Rooted ports labels (forestOf (now (reach .exit)) (now (via .exit)) r) ⌝ }
 {
-    let mut f = Forest {
-        reach: [0usize; 64],
-        via: [0usize; 64],
-        count: 0,
-    };
+    let mut count: usize = 0;
     let mut p: usize = 0;
     while p < ports {
         if labels[p] == p {
-            f = reached(f, p, 0);
+            count = count + 1;
+            reach[p] = count;
+            via[p] = 0;
         }
         p = p + 1;
     }
-    f
+    count
 }
 
-// One pass over the links: each with one end reached reaches the other.
-fn pass(t: Table, forest: Forest, rows: &mut [[u16; 168]; 64]) -> Forest
+// One pass over the links: each with one end reached reaches the other. Before it so many ports are reached; answers how many are then.
+fn pass(
+    t: Table,
+    before: usize,
+    reach: &mut [usize; 64],
+    via: &mut [usize; 64],
+    rows: &mut [[u16; 168]; 64],
+    divisors: &[u16],
+    places: &[u16],
+) -> usize
     requires { ⌜ WellFormed t ⌝ }
-    requires { ⌜ Spreading t forest (now rows) ⌝ }
-    ensures { λ r. ⌜ Passed t (t .«link_count») forest r (now (rows .exit)) ⌝ }
+    requires { ⌜ Spreading t (forestOf (now reach) (now via) before) (now rows) ⌝ }
+    requires { ⌜ Lent (now divisors) (now places) ⌝ }
+    ensures { λ r. ⌜ Passed t (t .«link_count») (forestOf (now (reach .entry)) (now (via .entry)) before) (forestOf (now (reach .exit)) (now (via .exit)) r) (now (rows .exit)) ⌝ }
 {
-    let mut f = forest;
+    let mut count = before;
     let mut k: usize = 0;
     while k < t.link_count {
         let l = t.links[k];
@@ -65,45 +86,86 @@ fn pass(t: Table, forest: Forest, rows: &mut [[u16; 168]; 64]) -> Forest
         let to = l.to as usize;
         let num = l.num as u64;
         let den = l.den as u64;
-        f = follow(f, rows, from, to, k, den, num);
-        f = follow(f, rows, to, from, k, num, den);
+        count = follow(
+            count,
+            reach,
+            via,
+            rows,
+            from,
+            to,
+            k,
+            den,
+            num,
+            divisors,
+            places,
+        );
+        // And against its arrow.
+        let receiver = to;
+        count = follow(
+            count,
+            reach,
+            via,
+            rows,
+            receiver,
+            from,
+            k,
+            num,
+            den,
+            divisors,
+            places,
+        );
         k = k + 1;
     }
-    f
+    count
 }
 
 // Link k from its end p to its end q: where only p is reached, q is, and its row is p's times `times`, divided by `by`.
 fn follow(
-    f: Forest,
+    count: usize,
+    reach: &mut [usize; 64],
+    via: &mut [usize; 64],
     rows: &mut [[u16; 168]; 64],
     p: usize,
     q: usize,
     k: usize,
     times: u64,
     by: u64,
-) -> Forest
-    requires { ⌜ Followable f (now rows) p q times by ⌝ }
-    ensures { λ r. ⌜ Followed f (now (rows .entry)) p q k times by r (now (rows .exit)) ⌝ }
+    divisors: &[u16],
+    places: &[u16],
+) -> usize
+    requires { ⌜ Followable (forestOf (now reach) (now via) count) (now rows) p q times by ⌝ }
+    requires { ⌜ Lent (now divisors) (now places) ⌝ }
+    ensures { λ r. ⌜ Followed (forestOf (now (reach .entry)) (now (via .entry)) count) (now (rows .entry)) p q k times by (forestOf (now (reach .exit)) (now (via .exit)) r) (now (rows .exit)) ⌝ }
 {
-    if f.reach[p] == 0 {
-        return f;
+    if reach[p] == 0 {
+        return count;
     }
-    if f.reach[q] != 0 {
-        return f;
+    if reach[q] != 0 {
+        return count;
     }
-    let row = row::multiplied(rows[p], times);
-    rows[q] = row::divided(row, by);
-    reached(f, q, k)
+    spread(rows, p, q, times, by, divisors, places);
+    reach[q] = count + 1;
+    via[q] = k;
+    count + 1
 }
 
-// Port p is the next that is reached, over link k.
-fn reached(forest: Forest, p: usize, k: usize) -> Forest
-    requires { ⌜ Enterable forest p ⌝ }
-    ensures { λ r. ⌜ r ≡ entered forest p k ⌝ }
+// The row of q: p's times `times`, divided by `by`.
+fn spread(
+    rows: &mut [[u16; 168]; 64],
+    p: usize,
+    q: usize,
+    times: u64,
+    by: u64,
+    divisors: &[u16],
+    places: &[u16],
+)
+    requires { ⌜ Spreadable (now rows) p q times by ⌝ }
+    requires { ⌜ Lent (now divisors) (now places) ⌝ }
+    ensures { λ _. ⌜ RowMade (now (rows .entry)) p q times by (now (rows .exit)) ⌝ }
 {
-    let mut f = forest;
-    f.count = f.count + 1;
-    f.reach[p] = f.count;
-    f.via[p] = k;
-    f
+    if times == by {
+        rows[q] = rows[p];
+        return;
+    }
+    rows[q] = row::scaled(rows[p], times, by, divisors, places);
 }

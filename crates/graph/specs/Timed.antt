@@ -1,5 +1,5 @@
 -- The periods and starts of a table's components, and what all components come to. Assumes nothing.
-use Prim.Native.Nat.{ℕ, _≤_, _<_}
+use Prim.Native.Nat.{ℕ, _+_, _*_, _≤_, _<_}
 use mathlib.Core.Path.{_≡_}
 use mathlib.Core.Logic.{_≢_}
 use mathlib.Core.List.{List, _++_}
@@ -8,12 +8,11 @@ use Rattle.fraction.specs.declared.Fraction.{Fraction}
 use Rattle.records.specs.Answer.{Written, cycleAnswer}
 use Rattle.rounds.specs.Graph.{LeastStarts}
 use Rattle.table.specs.declared.Table.{Table}
-use Rattle.ways.specs.Model.{IsPort}
 use Rattle.period.specs.Periods.{Period}
 use Rattle.period.specs.Search.{SmallPeriod, mostStart}
 use Rattle.answers.specs.Constraints.{PortIn, graphIn}
-use Rattle.answers.specs.Answers.{Floor, floorRecord, IsComponent, NoPeriod, leastRoom}
-use Rattle.constraints.specs.Searched.{Labelled, HasLimits}
+use Rattle.answers.specs.Answers.{Floor, floorRecord, IsComponent, NoPeriod}
+use Rattle.constraints.specs.Searched.{InTable}
 use Rattle.timings.specs.Timings.{aAt, bAt, startAt}
 
 -- the ports below n of component c hold this period and these starts; nothing else changed
@@ -43,14 +42,6 @@ module _ (t : Table) (weights timing : List ℕ) where
     pub long : length timing ≡ 192
     pub each : (c : ℕ) → IsComponent t c → c < n → TimedIn c
 
--- port c comes next: the components below it are timed
-pub record Timing (t : Table) (labels weights : List ℕ) (c : ℕ) (limits timing answer : List ℕ) : Type 0 where
-  pub labelled : Labelled t labels weights
-  pub a-port : IsPort t c
-  pub has-limits : HasLimits t weights limits
-  pub timed : TimedBelow t weights timing c
-  pub room : leastRoom ≤ length answer
-
 -- number 15, shown in the answer buffer
 pub record Shown (t : Table) (before after : List ℕ) (r : ℕ) : Type 0 where
   pub floor : Floor
@@ -63,3 +54,21 @@ pub record TimedOrShown (t : Table) (weights timing before after : List ℕ) (n 
   pub timed : r ≡ 0 → TimedBelow t weights timing n
   pub unchanged : r ≡ 0 → after ≡ before
   pub blocked : 0 < r → Shown t before after r
+
+-- ---- of every table that these are the labels, limits and links of
+module _ (labels : List ℕ) (total : ℕ) (limits links : List ℕ) where
+  -- where the components below c are timed, component c is, or is shown
+  pub record OneTimed (c : ℕ) (timing timing′ before after : List ℕ) (r : ℕ) : Type 0 where
+    pub of : (t : Table) (weights : List ℕ) → InTable t labels weights total limits links → TimedBelow t weights timing c
+        → TimedOrShown t weights timing′ before after (c + 1) r
+
+  pub record AllTimed (timing before after : List ℕ) (r : ℕ) : Type 0 where
+    pub of : (t : Table) (weights : List ℕ) → InTable t labels weights total limits links → TimedOrShown t weights timing before after total r
+
+-- room for the links of a table, and for the work on its components
+pub record TableRoom (t : Table) (links numbers edges rows costs : List ℕ) : Type 0 where
+  pub of-links : 7 * t .«link_count» ≤ length links
+  pub of-numbers : t .«link_count» ≤ length numbers
+  pub of-edges : 6 * t .«link_count» ≤ length edges
+  pub of-rows : 64 * t .«port_count» + 64 ≤ length rows
+  pub of-costs : 4 * t .«link_count» ≤ length costs

@@ -1,12 +1,12 @@
 // The periods and starts of all components, kept by port.
-ghost use Prim.Native.Nat.{_+_, _≤_};
+ghost use Prim.Native.Nat.{_≤_};
 ghost use mathlib.Core.Path.{_≡_};
 ghost use lib.ListN.{length};
-ghost use Rattle.constraints.specs.Searched.{Labelled, HasLimits, WorkRoom};
-ghost use Rattle.graph.specs.Timed.{Kept, Timing, TimedOrShown};
+ghost use Rattle.constraints.specs.Slices.{linkCount};
+ghost use Rattle.constraints.specs.Searched.{SomeTable, OwnLabel, WorkRoom};
+ghost use Rattle.graph.specs.Timed.{Kept, OneTimed, AllTimed};
 use constraints::component;
 use fraction::Fraction;
-use table::Table;
 use timings::blocked;
 
 // Keeps a component's period and its ports' starts, three numbers to a port.
@@ -34,14 +34,13 @@ fn keep(
     }
 }
 
-// Port c: keeps the period and starts of the component that it names, if it names one, and answers 0; or writes the floor and the block
-// of that component and answers how many bytes these have.
+// Component c: keeps its period and starts and answers 0, or writes its floor and block and answers how many bytes these have.
 fn time_one(
-    t: Table,
     labels: [usize; 64],
-    weights: [u64; 64],
+    total: usize,
     c: usize,
     limits: &[u64],
+    links: &[u64],
     numbers: &mut [u64],
     edges: &mut [u64],
     rows: &mut [u64],
@@ -50,22 +49,21 @@ fn time_one(
     timing: &mut [u64],
     answer: &mut [u8],
 ) -> usize
-    requires { ⌜ Timing t labels weights c (now limits) (now timing) (now answer) ⌝ }
-    requires { ⌜ WorkRoom (now numbers) (now edges) (now rows) (now costs) (now starts) ⌝ }
-    ensures { λ r. ⌜ TimedOrShown t weights (now (timing .exit)) (now (answer .entry)) (now (answer .exit)) (c + 1) r ⌝ }
-    ensures { λ _. ⌜ WorkRoom (now (numbers .exit)) (now (edges .exit)) (now (rows .exit)) (now (costs .exit)) (now (starts .exit)) ⌝ }
+    requires { ⌜ SomeTable labels total (now limits) (now links) ⌝ }
+    requires { ⌜ OwnLabel labels total c ⌝ }
+    requires { ⌜ WorkRoom total (linkCount (now links)) (now numbers) (now edges) (now rows) (now costs) (now starts) ⌝ }
+    requires { ⌜ length (now timing) ≡ 192 ⌝ }
+    requires { ⌜ 5120 ≤ length (now answer) ⌝ }
+    ensures { λ r. ⌜ OneTimed labels total (now (limits .entry)) (now (links .entry)) c (now (timing .entry)) (now (timing .exit)) (now (answer .entry)) (now (answer .exit)) r ⌝ }
     ensures { λ _. ⌜ length (now (timing .exit)) ≡ length (now (timing .entry)) ⌝ }
     ensures { λ _. ⌜ length (now (answer .exit)) ≡ length (now (answer .entry)) ⌝ }
 {
-    if labels[c] != c {
-        return 0;
-    }
     let s = component::search_in(
-        t,
         labels,
-        weights,
+        total,
         c,
         limits,
+        links,
         numbers,
         edges,
         rows,
@@ -73,7 +71,7 @@ fn time_one(
         starts,
     );
     if s.settled {
-        keep(labels, t.port_count, c, s.period, starts, timing);
+        keep(labels, total, c, s.period, starts, timing);
         return 0;
     }
     blocked::write_blocked(s, numbers, answer)
@@ -81,10 +79,10 @@ fn time_one(
 
 // The same for all components, the lowest first; it ends with the first that has no period.
 pub fn time_all(
-    t: Table,
     labels: [usize; 64],
-    weights: [u64; 64],
+    total: usize,
     limits: &[u64],
+    links: &[u64],
     numbers: &mut [u64],
     edges: &mut [u64],
     rows: &mut [u64],
@@ -93,31 +91,32 @@ pub fn time_all(
     timing: &mut [u64],
     answer: &mut [u8],
 ) -> usize
-    requires { ⌜ Labelled t labels weights ⌝ }
-    requires { ⌜ HasLimits t weights (now limits) ⌝ }
-    requires { ⌜ WorkRoom (now numbers) (now edges) (now rows) (now costs) (now starts) ⌝ }
+    requires { ⌜ SomeTable labels total (now limits) (now links) ⌝ }
+    requires { ⌜ WorkRoom total (linkCount (now links)) (now numbers) (now edges) (now rows) (now costs) (now starts) ⌝ }
     requires { ⌜ length (now timing) ≡ 192 ⌝ }
     requires { ⌜ 5120 ≤ length (now answer) ⌝ }
-    ensures { λ r. ⌜ TimedOrShown t weights (now (timing .exit)) (now (answer .entry)) (now (answer .exit)) (t .«port_count») r ⌝ }
+    ensures { λ r. ⌜ AllTimed labels total (now (limits .entry)) (now (links .entry)) (now (timing .exit)) (now (answer .entry)) (now (answer .exit)) r ⌝ }
 {
     let mut c: usize = 0;
-    while c < t.port_count {
-        let shown = time_one(
-            t,
-            labels,
-            weights,
-            c,
-            limits,
-            numbers,
-            edges,
-            rows,
-            costs,
-            starts,
-            timing,
-            answer,
-        );
-        if shown != 0 {
-            return shown;
+    while c < total {
+        if labels[c] == c {
+            let shown = time_one(
+                labels,
+                total,
+                c,
+                limits,
+                links,
+                numbers,
+                edges,
+                rows,
+                costs,
+                starts,
+                timing,
+                answer,
+            );
+            if shown != 0 {
+                return shown;
+            }
         }
         c = c + 1;
     }

@@ -2,5 +2,6 @@
 mod Copied
 mod Relaxed
 mod Partly
+mod Flat
 mod Buffer
 mod Going

@@ -2,11 +2,10 @@
 use Prim.Native.Nat.{ℕ, _+_, _*_, _≤_, _<_, _^_}
 use mathlib.Core.Path.{_≡_}
 use mathlib.Core.Logic.{_≢_}
-use mathlib.Core.Bool.{Bool, true, false}
 use mathlib.Core.List.{List}
 use lib.ListN.{length, getD}
 use Rattle.rounds.specs.Costs.{count, fromOf, toOf, gainOf, mostCost, Priced}
-use Rattle.rounds.specs.Starts.{asked, raise, roundOf}
+use Rattle.rounds.specs.Starts.{roundOf}
 
 -- edge k can be relaxed, from the starts s into t
 pub record Ready (cs s t : List ℕ) (k : ℕ) : Type 0 where
@@ -14,12 +13,6 @@ pub record Ready (cs s t : List ℕ) (k : ℕ) : Type 0 where
   pub from-in : fromOf cs k < length s
   pub to-in : toOf cs k < length t
   pub reach : getD s (fromOf cs k) 0 + gainOf cs k < 2 ^ 64
-
--- edge k makes t′ of the starts t, and b says whether it raised its receiver's
-pub record Relaxes (cs s : List ℕ) (k : ℕ) (t t′ : List ℕ) (b : Bool) : Type 0 where
-  pub made : t′ ≡ raise t (toOf cs k) (asked cs s k)
-  pub same : b ≡ false → t′ ≡ t
-  pub more : b ≡ true → getD t (toOf cs k) 0 < getD t′ (toOf cs k) 0
 
 -- a round can be made from the starts s: those of 64 ports, after at most 64 rounds from zero
 pub record Low (cs s : List ℕ) : Type 0 where
@@ -31,6 +24,11 @@ pub record Low (cs s : List ℕ) : Type 0 where
 pub record Raised (s t : List ℕ) (j : ℕ) : Type 0 where
   pub same : j ≡ 64 → t ≡ s
   pub grew : j ≢ 64 → getD s j 0 < getD t j 0
+
+-- j is a port whose start is greater in t than in s, or 64 where none is
+pub record Grown (s t : List ℕ) (j : ℕ) : Type 0 where
+  pub grew : j ≢ 64 → getD s j 0 < getD t j 0
+  pub none : j ≡ 64 → (i : ℕ) → i < 64 → getD t i 0 ≤ getD s i 0
 
 -- a round makes t of the starts s, and answers j
 pub record Round (cs s t : List ℕ) (j : ℕ) : Type 0 where

@@ -2,8 +2,9 @@
 ghost use mathlib.Core.Path.{_≡_};
 ghost use Prim.Native.Nat.{_+_, _*_, _≤_};
 ghost use lib.ListN.{length, replicate};
-ghost use Rattle.rounds.specs.Starts.{Fitting, Ran, row};
-ghost use Rattle.rounds.specs.Relax.{Ready, Relaxes, Low, Round};
+ghost use Rattle.rounds.specs.Costs.{toOf};
+ghost use Rattle.rounds.specs.Starts.{asked, raise, Fitting, Ran, row};
+ghost use Rattle.rounds.specs.Relax.{Ready, Low, Grown, Round};
 ghost use Rattle.rounds.specs.Advance.{put, Ahead, Advanced};
 
 // The ports of a row, and the answer of a round that raised none.
@@ -16,10 +17,10 @@ pub enum Outcome {
     Unsettled(usize),
 }
 
-// One edge: raises the start of its receiver to what it asks, from the starts before the round. Says whether it did.
-fn relax(old: &[u64], new: &mut [u64], costs: &[u64], k: usize) -> bool
+// One edge: raises the start of its receiver to what it asks, from the starts before the round.
+fn relax(old: &[u64], new: &mut [u64], costs: &[u64], k: usize)
     requires { ⌜ Ready (now costs) (now old) (now new) k ⌝ }
-    ensures { λ b. ⌜ Relaxes (now (costs .entry)) (now (old .entry)) k (now (new .entry)) (now (new .exit)) b ⌝ }
+    ensures { λ _. ⌜ now (new .exit) ≡ raise (now (new .entry)) (toOf (now (costs .entry)) k) (asked (now (costs .entry)) (now (old .entry)) k) ⌝ }
 {
     let at = 4 * k;
     let from = costs[at] as usize;
@@ -27,14 +28,13 @@ fn relax(old: &[u64], new: &mut [u64], costs: &[u64], k: usize) -> bool
     let reach = old[from] + costs[at + 2];
     let loss = costs[at + 3];
     if reach <= loss {
-        return false;
+        return;
     }
     let start = reach - loss;
     if start <= new[to] {
-        return false;
+        return;
     }
     new[to] = start;
-    true
 }
 
 fn copy(src: &[u64], dst: &mut [u64])
@@ -48,6 +48,22 @@ fn copy(src: &[u64], dst: &mut [u64])
     }
 }
 
+// The lowest port whose start is greater in new than in old, or WIDTH. Looked for after a round: kept by each edge it would slow the round.
+fn grown(old: &[u64], new: &[u64]) -> usize
+    requires { ⌜ length (now old) ≡ 64 ⌝ }
+    requires { ⌜ length (now new) ≡ 64 ⌝ }
+    ensures { λ j. ⌜ Grown (now (old .entry)) (now (new .entry)) j ⌝ }
+{
+    let mut p: usize = 0;
+    while p < WIDTH {
+        if old[p] < new[p] {
+            return p;
+        }
+        p = p + 1;
+    }
+    p
+}
+
 // One round over every edge, each from the starts old. Answers a port that it raised, or WIDTH.
 fn round(old: &[u64], new: &mut [u64], costs: &[u64]) -> usize
     requires { ⌜ Low (now costs) (now old) ⌝ }
@@ -55,16 +71,13 @@ fn round(old: &[u64], new: &mut [u64], costs: &[u64]) -> usize
     ensures { λ j. ⌜ Round (now (costs .entry)) (now (old .entry)) (now (new .exit)) j ⌝ }
 {
     copy(old, new);
-    let mut grew = WIDTH;
     let edges = costs.len() / 4;
     let mut k: usize = 0;
     while k < edges {
-        if relax(old, new, costs, k) {
-            grew = costs[4 * k + 1] as usize;
-        }
+        relax(old, new, costs, k);
         k = k + 1;
     }
-    grew
+    grown(old, new)
 }
 
 // A round from row r into row r + 1.

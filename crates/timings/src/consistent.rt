@@ -48,7 +48,7 @@ fn write_buffers(
     while k < t.link_count {
         let l = t.links[k];
         if l.buffer {
-            let d = sizes::size_of(l, weights, timing);
+            let d = sizes::size_of(l, &weights, timing);
             at = at + write::write_buffer(&mut answer[at..], k as u64, d);
         }
         k = k + 1;

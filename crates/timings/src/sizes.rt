@@ -1,6 +1,7 @@
 // The size of a buffer.
 ghost use Prim.Native.Nat.{_<_, _*_};
 ghost use mathlib.Core.Path.{_≡_};
+ghost use lib.ListN.{length};
 ghost use Rattle.timings.specs.Timings.{fewestEvents, sizeAt, BufferNumbers};
 use table::Link;
 
@@ -16,9 +17,10 @@ fn fewest(from: u64, to: u64, period: u64) -> u64
 }
 
 // The size of buffer l, from the weights and the periods and starts of its ends.
-pub fn size_of(l: Link, weights: [u64; 64], timing: &[u64]) -> u64
-    requires { ⌜ BufferNumbers l weights (now timing) ⌝ }
-    ensures { λ r. ⌜ r ≡ sizeAt l weights (now (timing .entry)) ⌝ }
+pub fn size_of(l: Link, weights: &[u64], timing: &[u64]) -> u64
+    requires { ⌜ length (now weights) ≡ 64 ⌝ }
+    requires { ⌜ BufferNumbers l (now weights) (now timing) ⌝ }
+    ensures { λ r. ⌜ r ≡ sizeAt l (now (weights .entry)) (now (timing .entry)) ⌝ }
 {
     let from = l.from as usize;
     let to = l.to as usize;

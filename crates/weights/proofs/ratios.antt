@@ -1,2 +1,3 @@
 -- What the proof of `ratios_of` uses.
 mod Decided
+mod Unit

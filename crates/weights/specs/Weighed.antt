@@ -38,6 +38,12 @@ pub record HasWeights (t : Table) (weights : List ℕ) : Type 0 where
   pub small : (p : ℕ) → IsPort t p → getD weights p 0 ≤ mostWeight
   pub rest : (p : ℕ) → t .«port_count» ≤ p → getD weights p 0 ≡ 0
 
+-- 1 for each of so many ports, and 0 past them
+pub record Ones (ports : ℕ) (weights : List ℕ) : Type 0 where
+  pub long : length weights ≡ 64
+  pub one : (p : ℕ) → p < ports → getD weights p 0 ≡ 1
+  pub rest : (p : ℕ) → ports ≤ p → getD weights p 0 ≡ 0
+
 pub record IsWeighed (t : Table) (r : Weighed) : Type 0 where
   pub within : r .within ≡ true → HasWeights t (r .weights)
   pub passes : r .within ≡ false → Overweight t

@@ -1,6 +1,9 @@
 // The weights of a table's ports, from rows that fit its links.
+ghost use Prim.Native.Nat.{_≤_};
+ghost use Rattle.forest.specs.PortRows.{RowsUpTo};
 ghost use Rattle.weights.specs.LeastRows.{LabelledRows, LeastRows};
-ghost use Rattle.weights.specs.Weighed.{Weighing, IsWeighed};
+ghost use Rattle.weights.specs.Weighed.{Weighing, Ones, IsWeighed};
+use exponents::primes;
 use exponents::product;
 use exponents::row;
 use table::Table;
@@ -11,16 +14,19 @@ pub struct Weighed {
     pub weights: [u64; 64],
 }
 
-pub fn weigh(t: Table, labels: [usize; 64], rows: &[[u16; 168]; 64]) -> Weighed
+// No prime above `most` has an exponent in the rows, which stand for exponent zero by 1,000.
+pub fn weigh(t: Table, labels: [usize; 64], rows: &[[u16; 168]; 64], most: u64) -> Weighed
     requires { ⌜ Weighing t labels (now rows) ⌝ }
+    requires { ⌜ RowsUpTo (now rows) most ⌝ }
     ensures { λ r. ⌜ IsWeighed t r ⌝ }
 {
     let least = least_rows(t, labels, rows);
+    let all = primes::all();
     let mut weights = [0u64; 64];
     let mut p: usize = 0;
     while p < t.port_count {
         let c = labels[p];
-        let w = product::product_within(row::minus(rows[p], least[c]));
+        let w = product::quotient_within(rows, p, &least, c, most, &all);
         if 10000 < w {
             return Weighed {
                 within: false,
@@ -36,6 +42,20 @@ pub fn weigh(t: Table, labels: [usize; 64], rows: &[[u16; 168]; 64]) -> Weighed
     }
 }
 
+// The weights where every ratio is 1: 1 for each port.
+pub fn ones(ports: usize) -> [u64; 64]
+    requires { ⌜ ports ≤ 64 ⌝ }
+    ensures { λ r. ⌜ Ones ports r ⌝ }
+{
+    let mut weights = [0u64; 64];
+    let mut p: usize = 0;
+    while p < ports {
+        weights[p] = 1;
+        p = p + 1;
+    }
+    weights
+}
+
 // For each component, at its lowest port, the least exponent of each prime among its ports' rows.
 fn least_rows(t: Table, labels: [usize; 64], rows: &[[u16; 168]; 64]) -> [[u16; 168]; 64]
     requires { ⌜ LabelledRows t labels (now rows) ⌝ }
@@ -45,7 +65,7 @@ fn least_rows(t: Table, labels: [usize; 64], rows: &[[u16; 168]; 64]) -> [[u16; 
     let mut p: usize = 0;
     while p < t.port_count {
         let c = labels[p];
-        least[c] = row::lesser(least[c], rows[p]);
+        row::take_lesser(&mut least, c, rows, p);
         p = p + 1;
     }
     least

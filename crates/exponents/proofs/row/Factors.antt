@@ -10,7 +10,7 @@ use lib.Seq.{getD-set-same, getD-set-other}
 use Rattle.exponents.specs.Divisors.{FromTwo}
 use Rattle.exponents.specs.Primes.{primeAt}
 use Rattle.exponents.specs.Factor.{IsFactor}
-use Rattle.exponents.specs.Row.{rowValue, RoomToMultiply, RoomToDivide, Multiplied}
+use Rattle.exponents.specs.Row.{rowValue, RoomToMultiply, RoomToDivide, Multiplied, Scaled}
 use Rattle.exponents.specs.Powers.{powers-raised}
 use Rattle.exponents.proofs.row.Places.{stored}
 
@@ -150,11 +150,14 @@ pub room-above : {row r : List ℕ} {n left p i : ℕ} → RoomToMultiply row n 
 room-above {left = left} {i = i} h s f =
     omega (arith, h .room i (f .below), s .bounded i (f .below), count-within left (s .count) (s .positive) (s .few))
 
-pub room-below : {row r : List ℕ} {n left p i : ℕ} → RoomToDivide row n → Partly r row n left → IsFactor left p i → 1 ≤ getD r i 0
-room-below {left = left} {p} {i} h s f =
+-- what is divided is no smaller than the row at the start
+pub room-below : {row between r : List ℕ} {times factors by left p i : ℕ} → RoomToDivide row by → Partly row between times factors
+    → Partly r between by left → IsFactor left p i → 1 ≤ getD r i 0
+room-below {left = left} {p} {i} h m s f =
     omega (
       arith,
       h .room i (f .below),
+      m .grows i (f .below),
       s .bounded i (f .below),
       count-within (left / p) (suc (s .count)) (left-positive (s .positive) f) (few-more (s .count) (s .few) f),
     )
@@ -168,3 +171,7 @@ partly-all {row} {r} {n} {left} s h = record {
   grows = s .grows;
   bounded = λ i l. omega (arith, s .bounded i l, count-within left (s .count) (s .positive) (s .few));
 }
+
+pub scaled-all : {row between r : List ℕ} {times factors by rest : ℕ} → Partly row between times factors → factors ≤ 1
+    → Partly r between by rest → rest ≤ 1 → Scaled row times by r
+scaled-all {between = between} m h d k = record { between = between; multiplied = partly-all m h; divided = partly-all d k }

@@ -1,12 +1,12 @@
 -- Storing into a row, one place after the other. Assumes nothing.
-use Prim.Native.Nat.{ℕ, _+_, _-_, _≤_, _<_, min}
-use mathlib.Core.Path.{_≡_, refl, _∙_}
-use mathlib.Core.List.{List}
-use native.Mathlib.Decide.{ℕ-discrete}
+use Prim.Native.Nat.{ℕ, _+_, _≤_, _<_, min}
+use mathlib.Core.Path.{_≡_, refl, sym, ap, _∙_}
+use mathlib.Core.List.{List, []}
+use native.Mathlib.Decide.{ℕ-discrete, decLt}
 use native.Mathlib.Omega.{arith}
-use lib.ListN.{length, getD, set, length-set}
-use lib.Seq.{getD-set-same, getD-set-other}
-use Rattle.exponents.specs.Row.{Lesser, Within, Minus}
+use lib.ListN.{length, getD, set, length-set, List·getD-eq-default}
+use lib.Seq.{set-getD, set-set, getD-set-same, getD-set-other}
+use Rattle.exponents.specs.Row.{RowAt, TakenLesser}
 
 -- what holds of the stored value at its place, and of the others, holds at each place
 pub stored : (P : ℕ → ℕ → Type 0) (r : List ℕ) {i v : ℕ} → i < length r → P i v → ((k : ℕ) → k < 168 → P k (getD r k 0))
@@ -41,11 +41,41 @@ module _ (f : ℕ → ℕ → ℕ) where
       decided k l (yes q) = rw (q, getD-set-same r i v 0 (omega (arith, h, c .long)), e, c .left i (omega arith))
       decided k l (no o) = getD-set-other r i k v 0 o ∙ c .done k (omega (arith, l, o))
 
-pub minus-room : {a b r : List ℕ} {i : ℕ} → Within b a → Combined _-_ a b r i → i < 168 → getD b i 0 ≤ getD r i 0
-minus-room {i = i} w c h = omega (arith, w .place i h, c .left i (omega arith))
+-- ---- the lesser exponents, in their row of an array
+-- the row at c is combined so far; the other rows are as they were
+pub record TakingLesser (least : List (List ℕ)) (c : ℕ) (row : List ℕ) (least′ : List (List ℕ)) (i : ℕ) : Type 0 where
+  pub lesser : List ℕ
+  pub made : least′ ≡ set least c lesser
+  pub combined : Combined min (getD least c []) row lesser i
 
-pub lesser-all : {a b r : List ℕ} {i : ℕ} → Combined min a b r i → 168 ≤ i → Lesser a b r
-lesser-all c h = record { place = λ k l. c .done k (omega (arith, l, h)) }
+-- past the end there is no row
+row-inside : {rows : List (List ℕ)} {c : ℕ} → RowAt rows c → c < length rows
+row-inside {rows} {c} at = decided (decLt c (length rows))
+  where
+    decided : Dec (c < length rows) → c < length rows
+    decided (yes h) = h
+    decided (no h) = absurd (omega (arith, at .long, ap length (List·getD-eq-default rows [] {n = c} (omega arith))))
 
-pub minus-all : {a b r : List ℕ} {i : ℕ} → Combined _-_ a b r i → 168 ≤ i → Minus a b r
-minus-all c h = record { place = λ k l. c .done k (omega (arith, l, h)) }
+module _ {least : List (List ℕ)} {c : ℕ} {row : List ℕ} (at : RowAt least c) where
+  pub lesser-none : TakingLesser least c row least 0
+  lesser-none = record { lesser = getD least c []; made = sym (set-getD least c []); combined = combined-none min row (at .long) }
+
+  module _ {least′ : List (List ℕ)} {i : ℕ} (t : TakingLesser least c row least′ i) where
+    pub lesser-row : getD least′ c [] ≡ t .lesser
+    lesser-row = rw (t .made) (getD-set-same least c (t .lesser) [] (row-inside at))
+
+    pub lesser-on : {v : ℕ} → i < 168 → v ≡ min (getD (getD least′ c []) i 0) (getD row i 0)
+        → TakingLesser least c row (set least′ c (set (getD least′ c []) i v)) (i + 1)
+    lesser-on {v} h e = record {
+      lesser = set (t .lesser) i v;
+      made = rw (lesser-row, t .made, set-set least c (t .lesser) (set (t .lesser) i v));
+      combined = combined-on min (t .combined) h (rw lesser-row at e);
+    }
+
+    pub lesser-all : 168 ≤ i → TakenLesser least c row least′
+    lesser-all h = record {
+      lesser = t .lesser;
+      made = t .made;
+      long = t .combined .long;
+      is-lesser = record { place = λ k l. t .combined .done k (omega (arith, l, h)) };
+    }

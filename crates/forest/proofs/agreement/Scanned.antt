@@ -4,7 +4,7 @@ use mathlib.Core.Path.{_≡_}
 use mathlib.Core.Bool.{Bool, true, false}
 use mathlib.Core.List.{List}
 use native.Mathlib.Omega.{arith}
-use native.Mathlib.Decide.{ℕ-discrete}
+use borrow.Author.Count.{below-none, below-more}
 use Rattle.table.specs.Limits.{WellFormed, LinkFits, link}
 use Rattle.table.specs.declared.Table.{Table}
 use Rattle.forest.specs.PortRows.{Fits}
@@ -31,16 +31,17 @@ link-low {t} {k} w h =
 
 module _ {t : Table} {rows : List (List ℕ)} where
   pub scanned-none : Scanned t rows 0
-  scanned-none = record { within = omega arith; before = λ j h. absurd (omega arith) }
-
-  pub scanned-on : {k : ℕ} {r : Bool} → Scanned t rows k → k < t .«link_count» → FitsRows (link t k) rows r → r ≡ true → Scanned t rows (k + 1)
-  scanned-on {k} s h x e = record { within = omega arith; before = before }
-    where
-      before : (j : ℕ) → j < k + 1 → Fits t rows j
-      before j l = elim (ℕ-discrete j k) [ yes i ↦ rw i (record { fits = x .yes e }) | no d ↦ s .before j (omega arith) ]
-
-  pub scanned-conflict : {k : ℕ} {r : Bool} → Scanned t rows k → FitsRows (link t k) rows r → r ≡ false → FirstConflict t rows k
-  scanned-conflict s x e = record { within = s .within; before = s .before; conflict = λ h f. x .no e (f .fits) }
+  scanned-none = record { within = omega arith; before = below-none (Fits t rows) }
 
   pub scanned-all : {k : ℕ} → Scanned t rows k → t .«link_count» ≤ k → FirstConflict t rows k
   scanned-all s h = record { within = s .within; before = s .before; conflict = λ l f. omega arith }
+
+  module _ {k : ℕ} {r : Bool} (s : Scanned t rows k) (x : FitsRows (link t k) rows r) where
+    pub scanned-on : k < t .«link_count» → r ≡ true → Scanned t rows (k + 1)
+    scanned-on h e = record {
+      within = omega arith;
+      before = below-more (Fits t rows) k (s .before) (record { fits = x .yes e });
+    }
+
+    pub scanned-conflict : r ≡ false → FirstConflict t rows k
+    scanned-conflict e = record { within = s .within; before = s .before; conflict = λ h f. x .no e (f .fits) }

@@ -8,7 +8,7 @@ use native.Mathlib.Omega.{arith}
 use borrow.Author.Count.{below-more}
 use Rattle.table.specs.Limits.{WellFormed, PartFits}
 use Rattle.table.specs.declared.Table.{Table}
-use Rattle.ways.specs.Model.{from, to, num, den}
+use Rattle.ways.specs.Model.{IsLink, from, to, num, den}
 use Rattle.forest.specs.Spreading.{Spreading, Followable, Unchanged, Followed, Closed, Passed}
 use Rattle.forest.specs.declared.spanning.Forest.{Forest}
 use Rattle.forest.proofs.spanning.Numbers.{numbered-few}
@@ -40,23 +40,30 @@ module _ {t : Table} where
   passed-all {k} p h = let e : k ≡ t .«link_count» = omega arith in rw e at p
 
   module _ (formed : WellFormed t) {k : ℕ} (below : k < t .«link_count») where
+    a-link : IsLink t k
+    a-link = record { below = below }
+
     forth : LinkEnds t k (from t k) (to t k) (den t k) (num t k)
     forth = record {
-      a-link = record { below = below };
+      a-link = a-link;
       one = record { below = formed .links k below .from };
       one-below = omega (arith, formed .links k below .from, formed .few-ports);
       other-below = omega (arith, formed .links k below .to, formed .few-ports);
       ends = inr (refl, refl);
+      times-most = λ m most d. most .den-most k a-link (λ e. d (sym e));
+      by-most = λ m most d. most .num-most k a-link (λ e. d (sym e));
       fits = λ rows e. record { fits = e };
     }
 
     back : LinkEnds t k (to t k) (from t k) (num t k) (den t k)
     back = record {
-      a-link = record { below = below };
+      a-link = a-link;
       one = record { below = formed .links k below .to };
       one-below = omega (arith, formed .links k below .to, formed .few-ports);
       other-below = omega (arith, formed .links k below .from, formed .few-ports);
       ends = inl (refl, refl);
+      times-most = λ m most. most .num-most k a-link;
+      by-most = λ m most. most .den-most k a-link;
       fits = λ rows e. record { fits = sym e };
     }
 
@@ -64,11 +71,13 @@ module _ {t : Table} where
       followable : {p q times by : ℕ} → LinkEnds t k p q times by → PartFits times → PartFits by → Followable f rows p q times by
       followable {p} l a b = record {
         few = numbered-few (s .numbered);
-        one = l .one-below;
-        other = l .other-below;
-        times-fits = a;
-        by-fits = b;
-        near = near-more (s .near p (l .one-below)) (omega (arith, numbered-few (s .numbered), s .numbered .within p));
+        spreadable = record {
+          one = l .one-below;
+          other = l .other-below;
+          times-fits = a;
+          by-fits = b;
+          near = near-more (s .near p (l .one-below)) (omega (arith, numbered-few (s .numbered), s .numbered .within p));
+        };
       }
 
       pub follow-forth : Followable f rows (from t k) (to t k) (den t k) (num t k)

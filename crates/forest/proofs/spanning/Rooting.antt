@@ -9,7 +9,7 @@ use borrow.Author.Count.{below-more}
 use lib.ListN.{getD, set, replicate, length-set, length-replicate, getD-replicate, List·getD-eq-default}
 use lib.Seq.{getD-set-other}
 use Rattle.rounds.specs.Lists.{lt-or-le, sum}
-use Rattle.forest.specs.Spreading.{entered, Enterable, Rootable, Rooted}
+use Rattle.forest.specs.Spreading.{forestOf, Unreached, entered, Rootable, Rooted}
 use Rattle.forest.specs.declared.spanning.Forest.{Forest}
 use Rattle.forest.proofs.spanning.Numbers.{numbered-few, numbered-on, number-new, reached-kept}
 
@@ -25,8 +25,8 @@ pub record Rooting (ports p : ℕ) (labels : List ℕ) (f : Forest) : Type 0 whe
   pub within : p ≤ ports
   pub rooted : Rooted p labels f
 
-pub rooting-none : (ports : ℕ) (labels : List ℕ) → Rooting ports 0 labels (record { reach = replicate 64 0; via = replicate 64 0; count = 0 })
-rooting-none ports labels = record {
+pub rooting-none : {ports : ℕ} {labels reach via : List ℕ} → Unreached reach via → Rooting ports 0 labels (forestOf reach via 0)
+rooting-none u = rw (u .no-reach, u .no-via) (record {
   within = omega arith;
   rooted = record {
     numbered = record {
@@ -40,15 +40,18 @@ rooting-none ports labels = record {
     only = λ p h. absurd (omega (arith, zeros 64 p));
     below = λ p h. absurd (omega (arith, zeros 64 p));
   };
-}
+})
 
 module _ {ports p : ℕ} {labels : List ℕ} {f : Forest} (g : Rooting ports p labels f) where
   pub rooting-all : ports ≤ p → Rooted ports labels f
   rooting-all h = let e : p ≡ ports = omega (arith, g .within) in rw e at (g .rooted)
 
   module _ (few : Rootable ports) (here : p < ports) where
-    pub rooting-enterable : Enterable f p
-    rooting-enterable = record { few = numbered-few (g .rooted .numbered); below = omega (arith, few .few) }
+    pub rooting-few : f .count ≤ 64
+    rooting-few = numbered-few (g .rooted .numbered)
+
+    pub rooting-below : p < 64
+    rooting-below = omega (arith, few .few)
 
     -- p is not its own label
     pub rooting-off : getD labels p 0 ≢ p → Rooting ports (p + 1) labels f
@@ -70,10 +73,10 @@ module _ {ports p : ℕ} {labels : List ℕ} {f : Forest} (g : Rooting ports p l
     rooting-on own = record {
       within = omega arith;
       rooted = record {
-        numbered = numbered-on (f .reach) p new (r .numbered) below;
+        numbered = numbered-on (f .reach) p new (r .numbered) rooting-below;
         via-long = length-set (f .via) p 0 ∙ r .via-long;
         all = below-more _ p (λ q b e. rw (reached-kept (f .reach) p new q (f .count + 1) (r .all q b e)) (r .all q b e))
-            (λ _. rw (number-new (f .reach) p new (r .numbered) below) (omega arith));
+            (λ _. rw (number-new (f .reach) p new (r .numbered) rooting-below) (omega arith));
         only = λ q a. only-on q (ℕ-discrete q p) a;
         below = λ q a. below-on q (ℕ-discrete q p) a;
       };
@@ -81,9 +84,6 @@ module _ {ports p : ℕ} {labels : List ℕ} {f : Forest} (g : Rooting ports p l
       where
         r : Rooted p labels f
         r = g .rooted
-
-        below : p < 64
-        below = rooting-enterable .below
 
         new : getD (f .reach) p 0 ≡ 0
         new = ⊎-elim (λ (a : 0 < getD (f .reach) p 0). absurd (omega (arith, r .below p a))) (λ (a : getD (f .reach) p 0 ≤ 0). omega arith) (lt-or-le 0 (getD (f .reach) p 0))

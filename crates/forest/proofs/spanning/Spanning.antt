@@ -76,5 +76,6 @@ module _ {t : Table} {f : Forest} (closed : Closed t (t .«link_count») f) wher
         all = s .rows-long;
         near = λ p h. near-more (s .near p h) (few p);
       };
-      over-forest = λ p i d. child-of p i d .fits;
+      over-forest = record { a-link = λ p i d. child-of p i d .a-link; fits = λ p i d. child-of p i d .fits };
+      up-to = s .up-to;
     }

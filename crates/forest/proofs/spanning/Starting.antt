@@ -1,6 +1,6 @@
 -- The lowest ports reached and the rows zero: the forest can spread. Assumes nothing.
 use Prim.Native.Nat.{ℕ, _≤_, _<_}
-use mathlib.Core.Path.{ap, _∙_}
+use mathlib.Core.Path.{_≡_, ap, _∙_}
 use mathlib.Core.List.{List, []}
 use native.Mathlib.Omega.{arith}
 use lib.ListN.{getD, replicate, length-replicate, getD-replicate}
@@ -10,7 +10,7 @@ use Rattle.ways.specs.Model.{IsPort}
 use Rattle.ways.specs.Ways.{Component}
 use Rattle.ways.specs.WayLaws.{component-unique, joined-component, way-port}
 use Rattle.ways.specs.Labels.{Components}
-use Rattle.forest.specs.PortRows.{Near}
+use Rattle.forest.specs.PortRows.{zeroRow, Near}
 use Rattle.forest.specs.Spreading.{Rootable, Rooted, Spreading}
 use Rattle.forest.specs.declared.spanning.Forest.{Forest}
 
@@ -20,10 +20,6 @@ near-more n h = record {
   low = λ i b. omega (arith, n .low i b);
   high = λ i b. omega (arith, n .high i b);
 }
-
--- the row of exponent zero
-abbrev zeroRow : List ℕ
-zeroRow = replicate 168 1000
 
 zero-row : Near zeroRow 0
 zero-row = record {
@@ -42,8 +38,8 @@ module _ {t : Table} (formed : WellFormed t) where
         let port : IsPort t c = way-port formed (m .joined .way) i in
         r .all c (port .below) (component-unique (components .each c port) (joined-component (m .joined) m))
 
-    pub start-spreading : Spreading t f (replicate 64 zeroRow)
-    start-spreading = record {
+    pub start-spreading : {rows : List (List ℕ)} → rows ≡ replicate 64 zeroRow → Spreading t f rows
+    start-spreading e = rw e (record {
       numbered = r .numbered;
       via-long = r .via-long;
       rows-long = length-replicate 64 zeroRow;
@@ -54,4 +50,7 @@ module _ {t : Table} (formed : WellFormed t) where
         ap (λ (n : ℕ). getD (f .reach) n 0) (component-unique m (components .each p i) ∙ r .only p h),
       );
       child = λ p i h other. absurd (other (rw (r .only p h) at (components .each p i)));
-    }
+      up-to = λ m most. record {
+        zero = λ p i h b l. rw (getD-replicate 64 p zeroRow [] h) (getD-replicate {A = ℕ} 168 i 1000 0 b);
+      };
+    })

@@ -10,6 +10,7 @@ use native.Mathlib.Nat.{pos-of-ne-zero}
 use lib.ListN.{length, getD, take, drop, length-append, length-drop}
 use lib.Seq.{drop-cons}
 use Rattle.records.specs.Answer.{Written, loopAnswer}
+use Rattle.records.specs.WrittenLaws.{written-front}
 use Rattle.table.specs.Limits.{WellFormed}
 use Rattle.table.specs.Reading.{readTable}
 use Rattle.table.specs.declared.Table.{Table}
@@ -21,10 +22,11 @@ use Rattle.weights.specs.declared.ratios.Ratios.{Ratios}
 use Rattle.weights.specs.declared.ratios.Agreement.the-variants.{Agreeing, Disagreeing, Passing}
 use Rattle.answers.specs.Answers.{refused, disagreeing, overweight, blocked, consistent, loopNumbers, records, leastRoom}
 use Rattle.answers.specs.Room.{fits-room}
-use Rattle.constraints.specs.Slices.{limitsOf}
-use Rattle.constraints.specs.Searched.{Labelled, HasLimits}
+use Rattle.constraints.specs.Slices.{limitsOf, linksOf, linkCount}
+use Rattle.constraints.specs.LinkLaws.{link-count}
+use Rattle.constraints.specs.Searched.{Labelled, InTable, SomeTable, WorkRoom}
 use Rattle.graph.specs.Analysis.{Decided, Analysed}
-use Rattle.graph.specs.Timed.{TimedOrShown}
+use Rattle.graph.specs.Timed.{TimedOrShown, AllTimed, TableRoom}
 use Rattle.timings.specs.Timings.{TableNumbers, timingOf}
 use Rattle.timings.specs.Sizes.{size-is, size-small}
 use Rattle.graph.specs.declared.analysis.Outcome.{Outcome}
@@ -86,6 +88,50 @@ decided-loop {numbers = numbers} {steps = steps} l room w = record {
 pub decided-over : {t : Table} (before : List ℕ) → Overweight t → Decided t before before (record { number = numberOf Passing; written = 0 })
 decided-over before o = record { answer = overweight; right = o; number-is = refl; records-are = written-none before; fits = tt }
 
+-- ---- the room for the work on a table
+pub table-room : {t : Table} {links numbers edges rows costs : List ℕ} {n m : ℕ} → t .«port_count» ≤ n → t .«link_count» ≤ m → 7 * m ≡ length links
+    → m ≡ length numbers
+    → 6 * m ≡ length edges
+    → 64 * n + 64 ≡ length rows
+    → 4 * m ≡ length costs
+    → TableRoom t links numbers edges rows costs
+table-room few-ports few-links of-links of-numbers of-edges of-rows of-costs = record {
+  of-links = omega arith;
+  of-numbers = omega arith;
+  of-edges = omega arith;
+  of-rows = omega arith;
+  of-costs = omega arith;
+}
+
+-- ---- the limits and links of the table
+module _ {t : Table} {labels weights limits₀ limits links₀ links : List ℕ} {n size : ℕ} (l : Labelled t labels weights)
+    (of-limits : Written (limitsOf t weights (t .«port_count»)) limits₀ limits n) (long : length limits₀ ≡ 128)
+    (of-links : Written (linksOf t labels weights (t .«link_count»)) links₀ links size) where
+  in-table : InTable t labels weights (t .«port_count») limits (take size links)
+  in-table = record {
+    labelled = l;
+    total-is = refl;
+    has-limits = record {
+      rest = drop (length (limitsOf t weights (t .«port_count»))) limits₀;
+      are = of-limits .contents;
+      long = rw (of-limits .contents) (simp (length-append, length-drop) (omega arith));
+    };
+    has-links = record { are = written-front of-links };
+  }
+
+  pub some-table : SomeTable labels (t .«port_count») limits (take size links)
+  some-table = record { table = t; weights = weights; in-table = in-table }
+
+  pub work-room : {numbers edges rows costs starts : List ℕ} → TableRoom t links₀ numbers edges rows costs → length starts ≡ 64
+      → WorkRoom (t .«port_count») (linkCount (take size links)) numbers edges rows costs starts
+  work-room r of-starts =
+      rw (link-count (in-table .has-links))
+      (record { of-numbers = r .of-numbers; of-edges = r .of-edges; of-rows = r .of-rows; of-costs = r .of-costs; of-starts = of-starts })
+
+  pub timed-here : {timing before after : List ℕ} {r : ℕ} → AllTimed labels (t .«port_count») limits (take size links) timing before after r
+      → TimedOrShown t weights timing before after (t .«port_count») r
+  timed-here h = h .of t weights in-table
+
 -- ---- number 15
 pub decided-shown : {t : Table} {weights timing before after : List ℕ} {n r : ℕ} → TimedOrShown t weights timing before after n r → r ≢ 0
     → Decided t before after (record { number = 15; written = r })
@@ -100,15 +146,6 @@ decided-shown h some =
     }
 
 -- ---- number 0
-pub has-limits : {t : Table} {weights limits₀ limits : List ℕ} {n : ℕ} → Written (limitsOf t weights (t .«port_count»)) limits₀ limits n
-    → length limits₀ ≡ 128
-    → HasLimits t weights limits
-has-limits {t} {weights} {limits₀} w long = record {
-  rest = drop (length (limitsOf t weights (t .«port_count»))) limits₀;
-  are = w .contents;
-  long = rw (w .contents) (simp (length-append, length-drop) (omega arith));
-}
-
 module _ {t : Table} {labels weights timing before middle : List ℕ} {r : ℕ} (l : Labelled t labels weights)
     (h : TimedOrShown t weights timing before middle (t .«port_count») r) (none : r ≡ 0) where
   pub all-numbers : TableNumbers t weights timing

@@ -36,10 +36,6 @@ module _ {t : Table} {labels weights : List ℕ} (l : Labelled t labels weights)
   pub small-weights : SmallWeights t (λ p. getD weights p 0)
   small-weights = record { weights = l .weighed .are; small = l .weighed .small }
 
-  -- a port that is its own label names its component
-  pub own-label : {c : ℕ} → c < t .«port_count» → getD labels c 0 ≡ c → IsComponent t c
-  own-label {c} h e = let i : IsPort t c = record { below = h } in record { a-port = i; lowest = rw e at (l .components .each c i) }
-
   pub timed-none : {timing : List ℕ} → length timing ≡ 192 → TimedBelow t weights timing 0
   timed-none long = record { long = long; each = λ c i h. absurd (omega arith) }
 

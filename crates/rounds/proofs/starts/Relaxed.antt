@@ -1,26 +1,19 @@
 -- What an edge does, by what it asks. Assumes nothing.
 use Prim.Native.Nat.{ℕ, _≤_, _<_, max}
-use mathlib.Core.Path.{_≡_, refl}
-use mathlib.Core.Bool.{true, false, true≢false, false≢true}
+use mathlib.Core.Path.{_≡_}
 use mathlib.Core.List.{List}
 use native.Mathlib.Omega.{arith}
-use lib.ListN.{length, getD, set}
-use lib.Seq.{set-getD, getD-set-same}
-use Rattle.rounds.specs.Costs.{toOf}
-use Rattle.rounds.specs.Starts.{asked, raise}
-use Rattle.rounds.specs.Relax.{Relaxes}
+use lib.ListN.{getD, set}
+use lib.Seq.{set-getD}
+use Rattle.rounds.specs.Starts.{raise}
 
-module _ (cs s : List ℕ) (k : ℕ) (t : List ℕ) where
+module _ (t : List ℕ) (j v : ℕ) where
   -- an edge that asks for no more than its receiver's start leaves it alone
-  pub relaxed-same : asked cs s k ≤ getD t (toOf cs k) 0 → Relaxes cs s k t t false
+  pub raise-same : v ≤ getD t j 0 → t ≡ raise t j v
   unfolding raise
-  relaxed-same h =
-      let e : max (getD t (toOf cs k) 0) (asked cs s k) ≡ getD t (toOf cs k) 0 = omega arith in
-      record { made = rw (e, set-getD t (toOf cs k) 0); same = λ _. refl; more = λ x. absurd (false≢true x) }
+  raise-same h = let e : max (getD t j 0) v ≡ getD t j 0 = omega arith in rw (e, set-getD t j 0)
 
   -- an edge that asks for more raises it
-  pub relaxed-more : toOf cs k < length t → getD t (toOf cs k) 0 < asked cs s k → Relaxes cs s k t (set t (toOf cs k) (asked cs s k)) true
+  pub raise-more : getD t j 0 < v → set t j v ≡ raise t j v
   unfolding raise
-  relaxed-more b h =
-      let e : max (getD t (toOf cs k) 0) (asked cs s k) ≡ asked cs s k = omega arith in
-      record { made = rw e; same = λ x. absurd (true≢false x); more = λ _. rw (getD-set-same t (toOf cs k) (asked cs s k) 0 b) h }
+  raise-more h = let e : max (getD t j 0) v ≡ v = omega arith in rw e

@@ -26,7 +26,7 @@ module _ {t : Table} {labels reach via : List ℕ} {rows : List (List ℕ)} {k :
     components = components;
     forest = spanned .forest;
     a-link = record { below = below };
-    outside = λ p port other e. first .conflict below (rw e at (spanned .over-forest p port other));
+    outside = λ p port other e. first .conflict below (rw e at (spanned .over-forest .fits p port other));
     room = room;
   }
 
@@ -34,7 +34,7 @@ module _ {t : Table} {labels reach via : List ℕ} {rows : List (List ℕ)} {k :
   disagrees {numbers} {n} low c = record { at = from t k; way = c .way; ports = c .ports; links = c .links; unequal = unequal }
     where
       fits : (j : ℕ) → j ∈ map (λ x. x .number) (c .rest) → Fits t rows j
-      fits j m = let (p, port, other, e) = c .over-forest j m in rw e at (spanned .over-forest p port other)
+      fits j m = let (p, port, other, e) = c .over-forest j m in rw e at (spanned .over-forest .fits p port other)
 
       unequal : ¬ (above t (stepsFrom numbers 0 n) ≡ below t (stepsFrom numbers 0 n))
       unequal = rw (c .steps) (loop-unequal rows formed k (c .rest) (rw (c .steps) at (c .way)) fits (first .conflict low))

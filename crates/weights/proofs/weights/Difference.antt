@@ -1,12 +1,14 @@
 -- The difference of two rows as a list, and the number that it stands for. Assumes nothing.
 use Prim.Native.Nat.{ℕ, zero, suc, _*_, _-_}
-use mathlib.Core.Path.{_≡_, refl, sym, _∙_}
+use mathlib.Core.Path.{_≡_, refl, sym}
 use mathlib.Core.List.{List, [], _∷_}
-use native.Mathlib.Nat.{eq-of-mul-eq-mul-right}
 use native.Mathlib.Omega.{arith}
 use lib.ListN.{getD}
-use Rattle.exponents.specs.Row.{rowValue, Within, Minus}
-use Rattle.exponents.specs.RowLaws.{row-positive, minus-value}
+use Rattle.exponents.specs.Row.{rowValue, Within, excess}
+use Rattle.exponents.specs.RowLaws.{excess-value}
+use Rattle.exponents.specs.Powers.{powers-same}
+use Rattle.exponents.specs.Primes.{primeAt}
+use Rattle.fraction.specs.Exponents.{powers}
 
 pub difference : List ℕ → List ℕ → List ℕ
 difference [] b = []
@@ -20,11 +22,11 @@ difference-place (x ∷ a) [] i = omega arith
 difference-place (x ∷ a) (y ∷ b) zero = refl
 difference-place (x ∷ a) (y ∷ b) (suc i) = difference-place a b i
 
+-- it stands for the powers by which a exceeds b
+pub excess-difference : (a b : List ℕ) → powers primeAt (excess b a) 168 ≡ rowValue (difference a b)
+unfolding rowValue
+excess-difference a b = powers-same primeAt 168 (λ i h. sym (difference-place a b i))
+
 -- its value times that of b is that of a
 pub difference-value : {a b : List ℕ} → Within b a → rowValue (difference a b) * rowValue b ≡ rowValue a
-difference-value {a} {b} w = minus-value w (record { place = λ i h. difference-place a b i })
-
-pub minus-difference : {a b r : List ℕ} → Within b a → Minus a b r → rowValue r ≡ rowValue (difference a b)
-minus-difference {a} {b} {r} w m =
-    eq-of-mul-eq-mul-right (rowValue b) (row-positive b) (rowValue r) (rowValue (difference a b))
-    (minus-value w m ∙ sym (difference-value w))
+difference-value {a} {b} w = rw (← excess-difference a b) (excess-value a b w)

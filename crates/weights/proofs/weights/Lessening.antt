@@ -6,9 +6,9 @@ use mathlib.Core.Logic.{_≢_, ⊎-elim}
 use native.Mathlib.Decide.{ℕ-discrete}
 use native.Mathlib.Omega.{arith}
 use borrow.Author.Count.{below-more}
-use lib.ListN.{getD, set, length-set}
+use lib.ListN.{length, getD, set, length-set}
 use lib.Seq.{getD-set-same, getD-set-other}
-use Rattle.exponents.specs.Row.{Within, Lesser}
+use Rattle.exponents.specs.Row.{RowAt, Within, Lesser, TakenLesser}
 use Rattle.table.specs.declared.Table.{Table}
 use Rattle.rounds.specs.Lists.{lt-or-le}
 use Rattle.ways.specs.Model.{IsPort}
@@ -32,13 +32,14 @@ module _ {t : Table} {labels : List ℕ} {rows : List (List ℕ)} (g : LabelledR
   pub least-none : LeastRows t labels rows 0 rows
   least-none = record {
     long = g .all;
+    each = g .each;
     least = λ p h. absurd (omega arith);
     attained = λ p i port h. record { at = getD labels p 0; a-port = label-port p port; label = label-own p port; is = refl };
   }
 
   -- the row of port p is taken in
   module _ {r : List (List ℕ)} {p : ℕ} {x : List ℕ} (port : p < t .«port_count») (l : LeastRows t labels rows p r)
-      (less : Lesser (rowOf r (getD labels p 0)) (rowOf rows p) x) where
+      (x-long : length x ≡ 168) (less : Lesser (rowOf r (getD labels p 0)) (rowOf rows p) x) where
     abbrev next : List (List ℕ)
     next = set r (getD labels p 0) x
 
@@ -73,13 +74,30 @@ module _ {t : Table} {labels : List ℕ} {rows : List (List ℕ)} (g : LabelledR
     attained-next q i a b (yes e) = rw (e, changed) (attained-here i b)
     attained-next q i a b (no f) = rw (kept (getD labels q 0) f) (l .attained q i a b)
 
-    pub least-on : LeastRows t labels rows (p + 1) next
+    each-next : (c : ℕ) → c < 64 → Dec (c ≡ getD labels p 0) → length (rowOf next c) ≡ 168
+    each-next c h (yes e) = rw (e, changed) x-long
+    each-next c h (no f) = rw (kept c f) (l .each c h)
+
+    least-on : LeastRows t labels rows (p + 1) next
     least-on = record {
       long = length-set r (getD labels p 0) x ∙ l .long;
+      each = λ c h. each-next c h (ℕ-discrete c (getD labels p 0));
       least = below-more _ p (λ q h. least-before q h (ℕ-discrete (getD labels q 0) (getD labels p 0))) least-here;
       attained = λ q i a b. attained-next q i a b (ℕ-discrete (getD labels q 0) (getD labels p 0));
     }
 
+-- the same of what `take_lesser` makes
+pub least-taken : {t : Table} {labels : List ℕ} {rows r r′ : List (List ℕ)} {p : ℕ} → LabelledRows t labels rows → p < t .«port_count»
+    → LeastRows t labels rows p r
+    → TakenLesser r (getD labels p 0) (rowOf rows p) r′
+    → LeastRows t labels rows (p + 1) r′
+least-taken g port l taken = rw (taken .made) (least-on g port l (taken .long) (taken .is-lesser))
+
+pub least-row : {t : Table} {labels : List ℕ} {rows r : List (List ℕ)} {p : ℕ} → LabelledRows t labels rows → p < t .«port_count»
+    → LeastRows t labels rows p r
+    → RowAt r (getD labels p 0)
+least-row g port l = record { below = label-small g port; long = l .each _ (label-small g port) }
+
 pub least-all : {t : Table} {labels : List ℕ} {rows r : List (List ℕ)} {p : ℕ} → LeastRows t labels rows p r → t .«port_count» ≤ p
     → LeastRows t labels rows (t .«port_count») r
-least-all l h = record { long = l .long; least = λ q b. l .least q (omega arith); attained = l .attained }
+least-all l h = record { long = l .long; each = l .each; least = λ q b. l .least q (omega arith); attained = l .attained }

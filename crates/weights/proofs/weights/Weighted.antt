@@ -7,18 +7,26 @@ use native.Mathlib.Omega.{arith}
 use borrow.Author.Count.{below-more}
 use lib.ListN.{length, getD, set, replicate, length-set}
 use lib.Seq.{getD-set-same, getD-set-other}
-use Rattle.exponents.specs.Row.{rowValue, Within, Minus}
+use Rattle.exponents.specs.Row.{RowAt, Within, SameAbove, excess}
+use Rattle.exponents.specs.Primes.{primeAt}
+use Rattle.fraction.specs.Exponents.{powers}
 use Rattle.rounds.specs.StartsLaws.{zeros-at}
 use Rattle.table.specs.declared.Table.{Table}
-use Rattle.forest.specs.PortRows.{rowOf}
+use Rattle.forest.specs.PortRows.{rowOf, RowsUpTo}
 use Rattle.weights.specs.LeastRows.{LabelledRows, LeastRows}
-use Rattle.weights.specs.Weighed.{Weighing, IsWeighed, mostWeight}
-use Rattle.weights.proofs.weights.Difference.{minus-difference}
+use Rattle.weights.specs.Weighed.{Weighing, Ones, IsWeighed, mostWeight}
+use Rattle.weights.proofs.weights.Difference.{excess-difference}
+use Rattle.weights.proofs.weights.Lessening.{label-small}
 use Rattle.weights.proofs.weights.Same.{weights-same}
 use Rattle.weights.proofs.weights.Smallest.{weightOf, rows-weights}
 
 pub labelled-rows : {t : Table} {labels : List ℕ} {rows : List (List ℕ)} → Weighing t labels rows → LabelledRows t labels rows
-labelled-rows g = record { well-formed = g .well-formed; components = g .components; all = g .port-rows .all }
+labelled-rows g = record {
+  well-formed = g .well-formed;
+  components = g .components;
+  all = g .port-rows .all;
+  each = λ p h. g .port-rows .near p h .long;
+}
 
 -- the weights of the ports below n are stored, none above 10,000
 pub record Weighted (t : Table) (labels : List ℕ) (rows least : List (List ℕ)) (n : ℕ) (weights : List ℕ) : Type 0 where
@@ -42,11 +50,32 @@ module _ {t : Table} {labels : List ℕ} {rows least : List (List ℕ)} where
     pub weighted-within : {p : ℕ} → p < t .«port_count» → Within (rowOf least (getD labels p 0)) (rowOf rows p)
     weighted-within {p} h = l .least p h
 
+    -- the least exponent of a prime is zero where each is
+    pub weighted-above : {p most : ℕ} → p < t .«port_count» → RowsUpTo rows most
+        → SameAbove (rowOf least (getD labels p 0)) (rowOf rows p) most
+    weighted-above {p} h up = record {
+      place = λ i b high.
+          let a = l .attained p i (record { below = h }) b in
+          omega (
+            arith,
+            a .is,
+            up .zero p i (omega (arith, g .well-formed .few-ports)) b high,
+            up .zero (a .at) i (omega (arith, a .a-port .below, g .well-formed .few-ports)) b high,
+          );
+    }
+
+    pub weighted-row : {p : ℕ} → p < t .«port_count» → RowAt rows p
+    weighted-row {p} h =
+        let low : p < 64 = omega (arith, g .well-formed .few-ports) in
+        record { below = low; long = g .port-rows .near p low .long }
+
+    pub weighted-least : {p : ℕ} → p < t .«port_count» → RowAt least (getD labels p 0)
+    weighted-least h = let low = label-small (labelled-rows g) h in record { below = low; long = l .each _ low }
+
     -- the weight of port p, or 10,001 where that is less, is x
-    module _ {p x : ℕ} {m : List ℕ} (h : p < t .«port_count») (minus : Minus (rowOf rows p) (rowOf least (getD labels p 0)) m)
-        (is : x ≡ min (rowValue m) 10001) where
+    module _ {p x : ℕ} (h : p < t .«port_count») (is : x ≡ min (powers primeAt (excess (rowOf least (getD labels p 0)) (rowOf rows p)) 168) 10001) where
       is-weight : x ≡ min (weightOf labels rows least p) 10001
-      is-weight = is ∙ ap (λ (n : ℕ). min n 10001) (minus-difference (weighted-within h) minus)
+      is-weight = is ∙ ap (λ (n : ℕ). min n 10001) (excess-difference (rowOf rows p) (rowOf least (getD labels p 0)))
 
       pub weighted-on : {weights : List ℕ} → Weighted t labels rows least p weights → x ≤ mostWeight
           → Weighted t labels rows least (p + 1) (set weights p x)
@@ -82,3 +111,30 @@ module _ {t : Table} {labels : List ℕ} {rows least : List (List ℕ)} where
       };
       passes = λ e. absurd (true≢false e);
     }
+
+-- the first p of so many ports have the weight 1
+pub record OnesBelow (ports p : ℕ) (weights : List ℕ) : Type 0 where
+  pub within : p ≤ ports
+  pub ones : Ones p weights
+
+module _ {ports : ℕ} where
+  pub ones-none : OnesBelow ports 0 (replicate 64 0)
+  ones-none = record {
+    within = omega arith;
+    ones = record { long = refl; one = λ p h. absurd (omega arith); rest = λ p h. zeros-at 64 p };
+  }
+
+  module _ {p : ℕ} {weights : List ℕ} (o : OnesBelow ports p weights) where
+    pub ones-on : ports ≤ 64 → p < ports → OnesBelow ports (p + 1) (set weights p 1)
+    ones-on few h = record {
+      within = omega arith;
+      ones = record {
+        long = length-set weights p 1 ∙ o .ones .long;
+        one = below-more _ p (λ q k. getD-set-other weights p q 1 0 (λ e. omega arith) ∙ o .ones .one q k)
+            (getD-set-same weights p 1 0 (omega (arith, o .ones .long)));
+        rest = λ q k. getD-set-other weights p q 1 0 (λ e. omega arith) ∙ o .ones .rest q (omega arith);
+      };
+    }
+
+    pub ones-all : ports ≤ p → Ones ports weights
+    ones-all h = let e : p ≡ ports = omega (arith, o .within) in rw e at (o .ones)

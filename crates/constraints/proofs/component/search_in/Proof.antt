@@ -1,10 +1,10 @@
 -- The slices are the component's own, and what is found over them is translated. Assumes nothing.
+use mathlib.Core.Path.{_∙_}
 use native.Mathlib.Omega.{arith}
 use borrow.Author.Needs.{needs}
 use lib.ListN.{length-take}
 use Rattle.records.specs.WrittenLaws.{written-within}
-use Rattle.constraints.specs.SliceLaws.{weights-small}
-use Rattle.constraints.proofs.component.Cut.{cut-links, cut-length, cut-component, cut-room, cut-kept, cut-searched}
+use Rattle.constraints.proofs.component.Cut.{cut-few, cut-component, cut-room, cut-searched}
 use Rattle.constraints.proofs.component.search_in.Statement.{statement}
 use Rattle.constraints.proofs.component.search_in.Tie as tie
 
@@ -17,29 +17,23 @@ ports-in-requires c κs = search needs
 connections-in-requires : tie.Need-connections-in-requires
 connections-in-requires c κs = search needs
 
-slice-reshare-prefix-edges-of : tie.Need-slice-reshare-prefix-edges-of
-slice-reshare-prefix-edges-of c = written-within (c .before .before .connections-in .ensures)
-
-slice-aggregate-edges-of : tie.Need-slice-aggregate-edges-of
-slice-aggregate-edges-of c = simp length-take (omega (arith, written-within (c .before .before .before .connections-in .ensures)))
-
-edges-of-requires : tie.Need-edges-of-requires
-edges-of-requires c κs = (c .before .before .before .before .before .before .before .before .before .before .before .before .before .before .before .pre .0 .well-formed, (weights-small (c .before .before .before .before .before .before .before .before .before .before .before .before .before .before .before .pre .0 .weighed), (cut-links (c .before .before .before .before .before .before .before .before .before .before .before .before .before .before .before .pre .0) _ (c .before .before .before .before .connections-in .ensures), omega (arith, cut-length (c .before .before .before .before .before .before .before .before .before .before .before .before .before .before .before .pre .0) _ (c .before .before .before .before .connections-in .ensures), c .before .before .before .before .before .before .before .before .before .before .before .before .before .before .before .pre .1 .1 .1 .of-edges))))
+mul-size : tie.Need-mul-size
+mul-size c = omega (arith, cut-few (c .before .before .before .before .before .before .before .before .before .before .before .before .before .before .before .before .before .pre .1 .0) (c .before .before .before .before .connections-in .ensures .0) (c .before .before .before .before .connections-in .ensures .1) (c .before .before .before .before .before .before .before .before .ports-in .ensures) (c .before .before .before .before .before .before .before .before .before .before .before .before .before .before .before .before .before .pre .0 .in-table))
 
 array-share-prefix-ports : tie.Need-array-share-prefix-ports
-array-share-prefix-ports c = written-within (c .before .before .before .before .before .before .before .before .before .before .ports-in .ensures)
+array-share-prefix-ports c = written-within (c .before .before .before .before .before .before .before .before .ports-in .ensures)
 
 slice-aggregate-least-period : tie.Need-slice-aggregate-least-period
-slice-aggregate-least-period c = simp length-take (omega (arith, written-within (c .before .before .before .before .before .before .before .before .before .before .before .ports-in .ensures)))
+slice-aggregate-least-period c = simp length-take (omega (arith, written-within (c .before .before .before .before .before .before .before .before .before .ports-in .ensures)))
 
 slice-reshare-prefix-least-period : tie.Need-slice-reshare-prefix-least-period
-slice-reshare-prefix-least-period c = written-within (c .before .before .before .edges-of .ensures)
+slice-reshare-prefix-least-period c = written-within (c .before .before .before .before .before .connections-in .ensures .1)
 
 slice-aggregate-least-period-2 : tie.Need-slice-aggregate-least-period-2
-slice-aggregate-least-period-2 c = simp length-take (omega (arith, written-within (c .before .before .before .before .edges-of .ensures)))
+slice-aggregate-least-period-2 c = simp length-take (omega (arith, written-within (c .before .before .before .before .before .before .connections-in .ensures .1)))
 
 least-period-requires : tie.Need-least-period-requires
-least-period-requires c κs = (cut-component (c .before .before .before .before .before .before .before .before .before .before .before .before .before .before .before .before .before .before .before .before .before .before .before .pre .0) _ (c .before .before .before .before .before .before .before .before .before .before .before .before .connections-in .ensures) (c .before .before .before .before .before .before .before .before .before .before .before .before .before .before .before .ports-in .ensures) (c .before .before .before .before .before .before .before .edges-of .ensures) (c .before .before .before .before .before .before .before .before .before .before .before .before .before .before .before .before .before .before .before .before .before .before .before .pre .1 .1 .0) (c .before .before .before .before .before .before .before .before .before .before .before .before .before .before .before .before .before .before .before .before .before .before .before .pre .1 .0), cut-room (c .before .before .before .before .before .before .before .before .before .before .before .before .before .before .before .before .before .before .before .before .before .before .before .pre .0) _ (c .before .before .before .before .before .before .before .before .before .before .before .before .connections-in .ensures) (c .before .before .before .before .before .before .before .before .before .before .before .before .before .before .before .ports-in .ensures) (c .before .before .before .before .before .before .before .edges-of .ensures) (c .before .before .before .before .before .before .before .before .before .before .before .before .before .before .before .before .before .before .before .before .before .before .before .pre .1 .1 .1))
+least-period-requires c κs = (cut-component (c .before .before .before .before .before .before .before .before .before .before .before .before .before .before .before .before .before .before .before .before .before .before .pre .1 .0) (c .before .before .before .before .before .before .before .before .before .connections-in .ensures .0) (c .before .before .before .before .before .before .before .before .before .connections-in .ensures .1) (c .before .before .before .before .before .before .before .before .before .before .before .before .before .ports-in .ensures) (c .before .before .before .before .before .before .before .before .before .before .before .before .before .before .before .before .before .before .before .before .before .before .pre .0 .in-table), cut-room (c .before .before .before .before .before .before .before .before .before .before .before .before .before .before .before .before .before .before .before .before .before .before .pre .1 .0) (c .before .before .before .before .before .before .before .before .before .connections-in .ensures .0) (c .before .before .before .before .before .before .before .before .before .connections-in .ensures .1) (c .before .before .before .before .before .before .before .before .before .before .before .before .before .ports-in .ensures) (c .before .before .before .before .before .before .before .before .before .before .before .before .before .before .before .before .before .before .before .before .before .before .pre .0 .in-table) (c .before .before .before .before .before .before .before .before .before .before .before .before .before .before .before .before .before .before .before .before .before .before .pre .1 .1))
 
 same-length : tie.Need-same-length
 same-length c = search needs
@@ -58,8 +52,8 @@ same-length-5 c = search needs
 
 returns : tie.Need-returns
 returns c = (
-  cut-searched (c .before .before .before .before .before .before .before .before .before .before .before .before .before .before .before .before .before .before .before .before .before .before .before .before .before .before .before .before .before .before .pre .0) _ (c .before .before .before .before .before .before .before .before .before .before .before .before .before .before .before .before .before .before .before .connections-in .ensures) (c .before .before .before .before .before .before .before .before .before .before .before .before .before .before .before .before .before .before .before .before .before .before .ports-in .ensures) (c .before .before .before .before .before .before .before .before .before .before .before .before .before .before .edges-of .ensures) (c .before .before .before .before .before .before .before .before .before .before .before .before .before .before .before .before .before .before .before .before .before .before .before .before .before .before .before .before .before .before .pre .1 .1 .0) (c .before .before .before .before .before .before .least-period .ensures .0),
-  cut-kept (c .before .before .before .before .before .before .before .before .before .before .before .before .before .before .before .before .before .before .before .before .before .before .before .before .before .before .before .before .before .before .pre .0) _ (c .before .before .before .before .before .before .before .before .before .before .before .before .before .before .before .before .before .before .before .connections-in .ensures) (c .before .before .before .before .before .before .before .before .before .before .before .before .before .before .before .before .before .before .before .before .before .before .ports-in .ensures) (c .before .before .before .before .before .before .before .before .before .before .before .before .before .before .edges-of .ensures) (c .before .before .before .before .before .before .before .before .before .before .before .before .before .before .before .before .before .before .before .before .before .before .before .before .before .before .before .before .before .before .pre .1 .1 .1) (c .before .before .before .before .before .before .least-period .ensures .1 .0) (c .before .before .before .before .before .before .least-period .ensures .1 .1 .0) (c .before .before .before .before .before .before .least-period .ensures .1 .1 .1),
+  cut-searched (c .before .before .before .before .before .before .before .before .before .before .before .before .before .before .before .before .before .before .before .before .before .before .before .before .before .before .before .before .before .pre .1 .0) (c .before .before .before .before .before .before .before .before .before .before .before .before .before .before .before .before .connections-in .ensures .0) (c .before .before .before .before .before .before .before .before .before .before .before .before .before .before .before .before .connections-in .ensures .1) (c .before .before .before .before .before .before .before .before .before .before .before .before .before .before .before .before .before .before .before .before .ports-in .ensures) (c .before .before .before .before .before .before .least-period .ensures .0),
+  c .before .before .before .before .before .before .least-period .ensures .1 .1 .1 ∙ c .before .before .before .before .before .before .before .before .before .before .before .before .before .before .before .before .before .before .before .before .before .before .before .before .before .before .before .before .before .pre .1 .1 .of-starts,
 )
 
 pub search-in-spec : {M : Type 1} → statement M
@@ -69,9 +63,7 @@ search-in-spec =
     slice-aggregate-ports-in
     ports-in-requires
     connections-in-requires
-    slice-reshare-prefix-edges-of
-    slice-aggregate-edges-of
-    edges-of-requires
+    mul-size
     array-share-prefix-ports
     slice-aggregate-least-period
     slice-reshare-prefix-least-period

@@ -1,5 +1,5 @@
 -- Each entry of the table is the least divisor of its number. Assumes nothing.
-use Rattle.exponents.proofs.divisors.Table.{least-at}
+use Rattle.exponents.specs.Divisors.{divisor-entry, divisor-least}
 use borrow.Author.Needs.{needs}
 use Rattle.exponents.proofs.divisors.least_divisor.Statement.{statement}
 use Rattle.exponents.proofs.divisors.least_divisor.Tie as tie
@@ -7,14 +7,14 @@ use Rattle.exponents.proofs.divisors.least_divisor.Tie as tie
 mul-wide : tie.Need-mul-wide
 mul-wide c = search needs
 
-array-read-wide : tie.Need-array-read-wide
-array-read-wide c = search needs
+shared-slice-read-wide : tie.Need-shared-slice-read-wide
+shared-slice-read-wide c = search (divisor-entry, needs)
 
 wide-requires : tie.Need-wide-requires
 wide-requires c κs = search needs
 
 returns : tie.Need-returns
-returns c = rw (c .wide .ensures) (least-at (c .before .pre))
+returns c = search (divisor-least, needs)
 
 pub least-divisor-spec : {M : Type 1} → statement M
-least-divisor-spec = tie.close (tie.spec mul-wide array-read-wide wide-requires returns)
+least-divisor-spec = tie.close (tie.spec mul-wide shared-slice-read-wide wide-requires returns)

@@ -1,5 +1,5 @@
--- The table is the list of the places. Assumes nothing.
-use Rattle.exponents.specs.Primes.{places, placeOf}
+-- The list is that of the places. Assumes nothing.
+use Rattle.exponents.specs.Primes.{place-entry, place-is}
 use borrow.Author.Needs.{needs}
 use Rattle.exponents.proofs.primes.place.Statement.{statement}
 use Rattle.exponents.proofs.primes.place.Tie as tie
@@ -7,15 +7,14 @@ use Rattle.exponents.proofs.primes.place.Tie as tie
 mul-wide : tie.Need-mul-wide
 mul-wide c = search needs
 
-array-read-wide : tie.Need-array-read-wide
-array-read-wide c = search needs
+shared-slice-read-wide : tie.Need-shared-slice-read-wide
+shared-slice-read-wide c = search (place-entry, needs)
 
 wide-requires : tie.Need-wide-requires
 wide-requires c κs = search needs
 
 returns : tie.Need-returns
-unfolding places placeOf
-returns c = c .wide .ensures
+returns c = search (place-is, needs)
 
 pub place-spec : {M : Type 1} → statement M
-place-spec = tie.close (tie.spec mul-wide array-read-wide wide-requires returns)
+place-spec = tie.close (tie.spec mul-wide shared-slice-read-wide wide-requires returns)

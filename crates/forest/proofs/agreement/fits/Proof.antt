@@ -1,5 +1,5 @@
 -- Equal rows are equal numbers, and only these. Assumes nothing.
-use Rattle.forest.proofs.agreement.Compared.{room, compared}
+use Rattle.forest.proofs.agreement.Compared.{room-multiply, room-divide, row-at, compared-rows, compared}
 use borrow.Author.Needs.{needs}
 use Rattle.forest.proofs.agreement.fits.Statement.{statement}
 use Rattle.forest.proofs.agreement.fits.Tie as tie
@@ -10,35 +10,38 @@ cast-from c = search needs
 cast-to : tie.Need-cast-to
 cast-to c = search needs
 
-mul-multiplied : tie.Need-mul-multiplied
-mul-multiplied c = search needs
+same-rows-requires : tie.Need-same-rows-requires
+same-rows-requires c κs = (row-at _ (c .before .before .before .before .before .before .pre .1 .0) (c .before .before .before .before .before .before .pre .0 .to), row-at _ (c .before .before .before .before .before .before .pre .1 .0) (c .before .before .before .before .before .before .pre .0 .from))
 
-element-copy-out-multiplied : tie.Need-element-copy-out-multiplied
-element-copy-out-multiplied c = search needs
+returns : tie.Need-returns
+returns c = compared-rows (c .before .before .before .before .before .before .before .pre .0) (c .before .before .before .before .before .before .before .pre .1 .0) (c .before .if1 .taken) (c .same-rows .ensures)
 
-cast-multiplied : tie.Need-cast-multiplied
-cast-multiplied c = search needs
+mul-scaled : tie.Need-mul-scaled
+mul-scaled c = search needs
 
-multiplied-requires : tie.Need-multiplied-requires
-multiplied-requires c κs = room _ _ (c .before .before .before .before .pre .1) (c .before .before .before .before .pre .0 .to) (c .before .before .before .before .pre .0 .num)
+element-copy-out-scaled : tie.Need-element-copy-out-scaled
+element-copy-out-scaled c = search needs
 
-mul-multiplied-2 : tie.Need-mul-multiplied-2
-mul-multiplied-2 c = search needs
+cast-scaled : tie.Need-cast-scaled
+cast-scaled c = search needs
 
-element-copy-out-multiplied-2 : tie.Need-element-copy-out-multiplied-2
-element-copy-out-multiplied-2 c = search needs
+cast-scaled-2 : tie.Need-cast-scaled-2
+cast-scaled-2 c = search needs
 
-cast-multiplied-2 : tie.Need-cast-multiplied-2
-cast-multiplied-2 c = search needs
+scaled-requires : tie.Need-scaled-requires
+scaled-requires c κs = (c .before .before .before .before .before .before .before .before .before .pre .1 .1, (room-multiply _ _ (c .before .before .before .before .before .before .before .before .before .pre .1 .0) (c .before .before .before .before .before .before .before .before .before .pre .0 .to) (c .before .before .before .before .before .before .before .before .before .pre .0 .num), room-divide _ _ (c .before .before .before .before .before .before .before .before .before .pre .1 .0) (c .before .before .before .before .before .before .before .before .before .pre .0 .to) (c .before .before .before .before .before .before .before .before .before .pre .0 .den)))
 
-multiplied-requires-2 : tie.Need-multiplied-requires-2
-multiplied-requires-2 c κs = room _ _ (c .before .before .before .before .before .before .before .pre .1) (c .before .before .before .before .before .before .before .pre .0 .from) (c .before .before .before .before .before .before .before .pre .0 .den)
+mul-same : tie.Need-mul-same
+mul-same c = search needs
+
+element-copy-out-same : tie.Need-element-copy-out-same
+element-copy-out-same c = search needs
 
 same-requires : tie.Need-same-requires
 same-requires c κs = search needs
 
-returns : tie.Need-returns
-returns c = compared (c .before .before .before .before .multiplied .ensures) (c .before .multiplied2 .ensures) (search needs) (search needs) (c .same .ensures)
+returns-2 : tie.Need-returns-2
+returns-2 c = compared (c .before .before .before .before .before .before .before .before .before .before .before .before .pre .0) (c .before .before .before .before .before .before .before .before .before .before .before .before .pre .1 .0) (c .before .before .scaled .ensures) (search needs) (c .same .ensures)
 
 pub fits-spec : {M : Type 1} → statement M
 fits-spec =
@@ -46,13 +49,14 @@ fits-spec =
     (tie.spec
     cast-from
     cast-to
-    mul-multiplied
-    element-copy-out-multiplied
-    cast-multiplied
-    multiplied-requires
-    mul-multiplied-2
-    element-copy-out-multiplied-2
-    cast-multiplied-2
-    multiplied-requires-2
+    same-rows-requires
+    returns
+    mul-scaled
+    element-copy-out-scaled
+    cast-scaled
+    cast-scaled-2
+    scaled-requires
+    mul-same
+    element-copy-out-same
     same-requires
-    returns)
+    returns-2)

@@ -1,5 +1,5 @@
 -- Where p is not reached or q is, nothing changes; otherwise q is reached. Assumes nothing.
-use Rattle.forest.proofs.spanning.Following.{follow-unreached, follow-reached, follow-multiply, follow-divide, follow-on}
+use Rattle.forest.proofs.spanning.Following.{follow-unreached, follow-reached, follow-on}
 use borrow.Author.Needs.{needs}
 use Rattle.forest.proofs.spanning.follow.Statement.{statement}
 use Rattle.forest.proofs.spanning.follow.Tie as tie
@@ -22,29 +22,29 @@ element-copy-out-if2 c = search needs
 returns-2 : tie.Need-returns-2
 returns-2 c = follow-reached _ _ _ _ _ _ _ (search needs)
 
-mul-multiplied : tie.Need-mul-multiplied
-mul-multiplied c = search needs
+spread-requires : tie.Need-spread-requires
+spread-requires c κs = search needs
 
-element-copy-out-multiplied : tie.Need-element-copy-out-multiplied
-element-copy-out-multiplied c = search needs
+add-reach : tie.Need-add-reach
+add-reach c = search needs
 
-multiplied-requires : tie.Need-multiplied-requires
-multiplied-requires c κs = follow-multiply (c .before .before .before .before .before .pre)
+mul-reach : tie.Need-mul-reach
+mul-reach c = search needs
 
-divided-requires : tie.Need-divided-requires
-divided-requires c κs = follow-divide (c .before .before .before .before .before .before .pre) (c .multiplied .ensures)
+element-write-reach : tie.Need-element-write-reach
+element-write-reach c = search needs
 
-mul-t13 : tie.Need-mul-t13
-mul-t13 c = search needs
+mul-via : tie.Need-mul-via
+mul-via c = search needs
 
-element-set-from-rows : tie.Need-element-set-from-rows
-element-set-from-rows c = search needs
+element-write-via : tie.Need-element-write-via
+element-write-via c = search needs
 
-reached-requires : tie.Need-reached-requires
-reached-requires c κs = search needs
+add-result : tie.Need-add-result
+add-result c = search needs
 
 returns-3 : tie.Need-returns-3
-returns-3 c = rw (c .reached .ensures) (follow-on (c .before .before .before .before .before .before .before .before .pre) (c .before .before .multiplied .ensures) _ (c .before .divided .ensures) (search needs) (search needs) (search needs))
+returns-3 c = follow-on _ _ _ _ _ _ _ (c .spread .ensures) (search needs) (search needs)
 
 pub follow-spec : {M : Type 1} → statement M
 follow-spec =
@@ -56,11 +56,11 @@ follow-spec =
     mul-if2
     element-copy-out-if2
     returns-2
-    mul-multiplied
-    element-copy-out-multiplied
-    multiplied-requires
-    divided-requires
-    mul-t13
-    element-set-from-rows
-    reached-requires
+    spread-requires
+    add-reach
+    mul-reach
+    element-write-reach
+    mul-via
+    element-write-via
+    add-result
     returns-3)

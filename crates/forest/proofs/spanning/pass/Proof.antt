@@ -1,20 +1,20 @@
 -- Each turn of the loop passes one link more, both ways. The measure is how many are left. Assumes nothing.
-use Rattle.forest.specs.Spreading.{Passed}
-use Rattle.forest.proofs.spanning.Passing.{passed-none, passed-all, follow-forth, follow-back, spreading-forth, passed-on}
 use Prim.Native.Nat.{_-_}
 use native.Mathlib.Omega.{arith}
+use Rattle.forest.specs.Spreading.{forestOf, Passed}
+use Rattle.forest.proofs.spanning.Passing.{passed-none, passed-all, follow-forth, follow-back, spreading-forth, passed-on}
 use borrow.Author.Needs.{needs}
 use Rattle.forest.proofs.spanning.pass.Statement.{statement}
 use Rattle.forest.proofs.spanning.pass.Tie as tie
 
 abbrev Inv-loop : tie.InvT-loop
-Inv-loop rows₀ t f₀ k₀ rows f k = Passed t k f₀ f rows
+Inv-loop before reach₀ via₀ rows₀ divisors places t count₀ k₀ reach via rows count k = Passed t k (forestOf reach₀ via₀ before) (forestOf reach via count) rows
 
 abbrev μ-loop : tie.MeasureT-loop
-μ-loop rows₀ t f₀ k₀ rows f k = t .«link_count» - k
+μ-loop before reach₀ via₀ rows₀ divisors places t count₀ k₀ reach via rows count k = t .«link_count» - k
 
 loop-holds : tie.Need-loop-holds Inv-loop μ-loop
-loop-holds c = search (passed-none, needs)
+loop-holds c = passed-none (c .before .before .pre .1 .0)
 
 mul-l : tie.Need-mul-l Inv-loop μ-loop
 mul-l c = search needs
@@ -35,22 +35,22 @@ cast-den : tie.Need-cast-den Inv-loop μ-loop
 cast-den c = search needs
 
 follow-requires : tie.Need-follow-requires Inv-loop μ-loop
-follow-requires c κs = follow-forth (c .before .before .before .before .before .before .before .before .pre .0) (c .before .before .before .before .before .before .loop-test .taken) (c .before .before .before .before .before .before .before .loop .inv .spreading)
+follow-requires c κs = (follow-forth (c .before .before .before .before .before .before .before .before .before .before .before .before .pre .0) (c .before .before .before .before .before .before .before .before .loop-test .taken) (c .before .before .before .before .before .before .before .before .before .loop .inv .spreading), c .before .before .before .before .before .before .before .before .before .before .before .before .pre .1 .1)
 
 follow-requires-2 : tie.Need-follow-requires-2 Inv-loop μ-loop
-follow-requires-2 c κs = follow-back (c .before .before .before .before .before .before .before .before .before .before .pre .0) (c .before .before .before .before .before .before .before .before .loop-test .taken) (spreading-forth (c .before .before .before .before .before .before .before .before .before .before .pre .0) (c .before .before .before .before .before .before .before .before .loop-test .taken) (c .before .follow .ensures) (c .before .before .before .before .before .before .before .before .before .loop .inv .spreading))
+follow-requires-2 c κs = (follow-back (c .before .before .before .before .before .before .before .before .before .before .before .before .before .before .before .before .pre .0) (c .before .before .before .before .before .before .before .before .before .before .before .before .loop-test .taken) (spreading-forth (c .before .before .before .before .before .before .before .before .before .before .before .before .before .before .before .before .pre .0) (c .before .before .before .before .before .before .before .before .before .before .before .before .loop-test .taken) (c .before .before .before .follow .ensures) (c .before .before .before .before .before .before .before .before .before .before .before .before .before .loop .inv .spreading)), c .before .before .before .before .before .before .before .before .before .before .before .before .before .before .before .before .pre .1 .1)
 
 add-k : tie.Need-add-k Inv-loop μ-loop
-add-k c = omega (arith, c .before .before .before .before .before .before .before .before .before .loop-test .taken, c .before .before .before .before .before .before .before .before .before .before .before .pre .0 .few-links)
+add-k c = omega (arith, c .before .before .before .before .before .before .before .before .before .before .before .before .before .loop-test .taken, c .before .before .before .before .before .before .before .before .before .before .before .before .before .before .before .before .before .pre .0 .few-links)
 
 loop-less : tie.Need-loop-less Inv-loop μ-loop
 loop-less c = search needs
 
 loop-again : tie.Need-loop-again Inv-loop μ-loop
-loop-again c = passed-on (c .before .before .before .before .before .before .before .before .before .before .before .pre .0) (c .before .before .before .before .before .before .before .before .before .loop-test .taken) (c .before .before .follow .ensures) (c .follow2 .ensures) (c .before .before .before .before .before .before .before .before .before .before .loop .inv)
+loop-again c = passed-on (c .before .before .before .before .before .before .before .before .before .before .before .before .before .before .before .before .before .pre .0) (c .before .before .before .before .before .before .before .before .before .before .before .before .before .loop-test .taken) (c .before .before .before .before .follow .ensures) (c .follow2 .ensures) (c .before .before .before .before .before .before .before .before .before .before .before .before .before .before .loop .inv)
 
 returns : tie.Need-returns Inv-loop μ-loop
-returns c = search (passed-all, needs)
+returns c = passed-all (c .before .loop .inv) (c .loop-test .left)
 
 pub pass-spec : {M : Type 1} → statement M
 pass-spec =

@@ -1,35 +1,35 @@
 -- Each pass but the last reaches a port. The measure is how many of 64 are left. Assumes nothing.
-use Rattle.forest.specs.Spreading.{Spreading}
+use Prim.Native.Nat.{_-_}
+use mathlib.Core.Path.{refl}
+use Rattle.forest.specs.Spreading.{forestOf, Spreading}
 use Rattle.forest.proofs.spanning.Spanning.{passed-less, closed-spanned}
 use Rattle.forest.proofs.spanning.Starting.{start-rootable, start-spreading}
-use Prim.Native.Nat.{_-_}
-use borrow.Author.Needs.{needs}
 use Rattle.forest.proofs.spanning.spanned.Statement.{statement}
 use Rattle.forest.proofs.spanning.spanned.Tie as tie
 
 abbrev Inv-loop : tie.InvT-loop
-Inv-loop t rows₀ f₀ rows f = Spreading t f rows
+Inv-loop t rows₀ divisors places reach₀ via₀ count₀ rows reach via count = Spreading t (forestOf reach via count) rows
 
 abbrev μ-loop : tie.MeasureT-loop
-μ-loop t rows₀ f₀ rows f = 64 - f .count
+μ-loop t rows₀ divisors places reach₀ via₀ count₀ rows reach via count = 64 - count
 
 roots-requires : tie.Need-roots-requires Inv-loop μ-loop
-roots-requires c κs = start-rootable (c .before .pre .0)
+roots-requires c κs = (start-rootable (c .before .before .before .before .pre .0), record { no-reach = refl; no-via = refl })
 
 loop-holds : tie.Need-loop-holds Inv-loop μ-loop
-loop-holds c = start-spreading (c .before .before .pre .0) (c .before .before .pre .1) (c .roots .ensures)
+loop-holds c = start-spreading (c .before .before .before .before .before .pre .0) (c .before .before .before .before .before .pre .1 .0) (c .roots .ensures) (c .before .before .before .before .before .pre .1 .1 .0)
 
 pass-requires : tie.Need-pass-requires Inv-loop μ-loop
-pass-requires c κs = search needs
+pass-requires c κs = (c .before .before .before .before .before .before .before .before .before .pre .0, (c .before .before .before .loop .inv, c .before .before .before .before .before .before .before .before .before .pre .1 .1 .1))
 
 returns : tie.Need-returns Inv-loop μ-loop
-returns c = closed-spanned (c .before .before .pass .ensures .closed (c .if1 .taken)) (c .before .before .before .before .before .before .before .pre .1) (c .before .before .pass .ensures .spreading)
+returns c = closed-spanned (c .before .pass .ensures .closed (c .if1 .taken)) (c .before .before .before .before .before .before .before .before .before .before .before .pre .1 .0) (c .before .pass .ensures .spreading)
 
 loop-less : tie.Need-loop-less Inv-loop μ-loop
-loop-less c = passed-less (c .before .before .pass .ensures) (c .if1 .left)
+loop-less c = passed-less (c .before .pass .ensures) (c .if1 .left)
 
 loop-again : tie.Need-loop-again Inv-loop μ-loop
-loop-again c = c .before .before .pass .ensures .spreading
+loop-again c = c .before .pass .ensures .spreading
 
 pub spanned-spec : {M : Type 1} → statement M
 spanned-spec =

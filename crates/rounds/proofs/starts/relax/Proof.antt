@@ -1,7 +1,7 @@
 -- The edge asks for no more than its receiver has, or raises it. Assumes nothing.
 use native.Mathlib.Omega.{arith}
+use Rattle.rounds.proofs.starts.Relaxed.{raise-same, raise-more}
 use borrow.Author.Needs.{needs}
-use Rattle.rounds.proofs.starts.Relaxed.{relaxed-same, relaxed-more}
 use Rattle.rounds.proofs.starts.relax.Statement.{statement}
 use Rattle.rounds.proofs.starts.relax.Tie as tie
 
@@ -51,7 +51,7 @@ shared-slice-read-loss : tie.Need-shared-slice-read-loss
 shared-slice-read-loss c = search needs
 
 returns : tie.Need-returns
-returns c = relaxed-same _ _ _ _ (omega arith)
+returns c = raise-same _ _ _ (omega arith)
 
 sub-start : tie.Need-sub-start
 sub-start c = search needs
@@ -63,7 +63,7 @@ slice-read-if2 : tie.Need-slice-read-if2
 slice-read-if2 c = search needs
 
 returns-2 : tie.Need-returns-2
-returns-2 c = relaxed-same _ _ _ _ (omega arith)
+returns-2 c = raise-same _ _ _ (omega arith)
 
 mul-new : tie.Need-mul-new
 mul-new c = search needs
@@ -75,7 +75,7 @@ same-length : tie.Need-same-length
 same-length c = search needs
 
 returns-3 : tie.Need-returns-3
-returns-3 c = relaxed-more _ _ _ _ (omega arith) (omega arith)
+returns-3 c = raise-more _ _ _ (omega arith)
 
 pub relax-spec : {M : Type 1} → statement M
 relax-spec =

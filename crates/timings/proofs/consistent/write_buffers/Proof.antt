@@ -2,17 +2,17 @@
 use Prim.Native.Nat.{_-_}
 use mathlib.Core.Logic.{⊎-elim}
 use native.Mathlib.Omega.{arith}
-use borrow.Author.Needs.{needs}
 use Rattle.timings.specs.Sizes.{buffer-numbers}
 use Rattle.timings.proofs.consistent.Buffers.{BuffersWritten, buffers-none, buffers-on, buffers-off, buffers-all}
+use borrow.Author.Needs.{needs}
 use Rattle.timings.proofs.consistent.write_buffers.Statement.{statement}
 use Rattle.timings.proofs.consistent.write_buffers.Tie as tie
 
 abbrev Inv-loop : tie.InvT-loop
-Inv-loop weights timing answer₀ t at₀ k₀ answer at k = BuffersWritten t weights timing answer₀ answer at k
+Inv-loop timing answer₀ t weights at₀ k₀ answer at k = BuffersWritten t weights timing answer₀ answer at k
 
 abbrev μ-loop : tie.MeasureT-loop
-μ-loop weights timing answer₀ t at₀ k₀ answer at k = t .«link_count» - k
+μ-loop timing answer₀ t weights at₀ k₀ answer at k = t .«link_count» - k
 
 loop-holds : tie.Need-loop-holds Inv-loop μ-loop
 loop-holds c = search (buffers-none, needs)
@@ -23,8 +23,11 @@ mul-l c = search needs
 element-copy-out-l : tie.Need-element-copy-out-l Inv-loop μ-loop
 element-copy-out-l c = search needs
 
+slice-aggregate-size-of : tie.Need-slice-aggregate-size-of Inv-loop μ-loop
+slice-aggregate-size-of c = search needs
+
 size-of-requires : tie.Need-size-of-requires Inv-loop μ-loop
-size-of-requires c κs = buffer-numbers (c .before .before .before .before .before .before .pre .0) (record { below = c .before .before .loop-test .taken })
+size-of-requires c κs = (search needs, buffer-numbers (c .before .before .before .before .before .before .before .pre .0) (record { below = c .before .before .before .loop-test .taken }))
 
 sub-write-buffer : tie.Need-sub-write-buffer Inv-loop μ-loop
 sub-write-buffer c = search needs
@@ -39,7 +42,7 @@ write-buffer-requires : tie.Need-write-buffer-requires Inv-loop μ-loop
 write-buffer-requires c κs = search needs
 
 add-at : tie.Need-add-at Inv-loop μ-loop
-add-at c = let w = buffers-on (c .before .before .before .before .before .before .before .before .loop .inv) (c .before .before .before .before .before .before .before .loop-test .taken) (c .before .before .before .before .before .before .before .before .before .before .before .pre .1) (c .before .before .before .before .before .if1 .taken) (c .before .before .before .before .size-of .ensures) (c .before .before .write-buffer .ensures) in omega (arith, w .so-far .room)
+add-at c = let w = buffers-on (c .before .before .before .before .before .before .before .before .before .loop .inv) (c .before .before .before .before .before .before .before .before .loop-test .taken) (c .before .before .before .before .before .before .before .before .before .before .before .before .pre .1) (c .before .before .before .before .before .before .if1 .taken) (c .before .before .before .before .size-of .ensures) (c .before .before .write-buffer .ensures) in omega (arith, w .so-far .room)
 
 add-k : tie.Need-add-k Inv-loop μ-loop
 add-k c = search needs
@@ -49,7 +52,7 @@ loop-less c = search needs
 
 loop-again : tie.Need-loop-again Inv-loop μ-loop
 loop-again c = ⊎-elim
-    (λ w. rw (w .6, w .7) (buffers-on (c .before .before .before .loop .inv) (c .before .before .loop-test .taken) (c .before .before .before .before .before .before .pre .1) (w .0 .taken) (w .1 .ensures) (w .3 .ensures)))
+    (λ w. rw (w .7, w .8) (buffers-on (c .before .before .before .loop .inv) (c .before .before .loop-test .taken) (c .before .before .before .before .before .before .pre .1) (w .0 .taken) (w .2 .ensures) (w .4 .ensures)))
     (λ w. rw (w .1, w .2) (buffers-off (c .before .before .before .loop .inv) (c .before .before .loop-test .taken) (w .0 .left)))
     (c .if1 .came)
 
@@ -68,6 +71,7 @@ write-buffers-spec =
     loop-holds
     mul-l
     element-copy-out-l
+    slice-aggregate-size-of
     size-of-requires
     sub-write-buffer
     part-write-buffer-start

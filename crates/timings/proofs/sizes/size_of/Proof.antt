@@ -1,7 +1,7 @@
 -- The products of a buffer are small, so its sums fit, and its period is above zero. Assumes nothing.
 use native.Mathlib.Omega.{arith}
-use borrow.Author.Needs.{needs}
 use Rattle.timings.specs.Sizes.{buffer-products}
+use borrow.Author.Needs.{needs}
 use Rattle.timings.proofs.sizes.size_of.Statement.{statement}
 use Rattle.timings.proofs.sizes.size_of.Tie as tie
 
@@ -45,10 +45,10 @@ shared-slice-read-fewest : tie.Need-shared-slice-read-fewest
 shared-slice-read-fewest c = search needs
 
 mul-fewest-3 : tie.Need-mul-fewest-3
-mul-fewest-3 c = let products = buffer-products (c .before .before .before .before .before .before .before .before .pre) in omega arith
+mul-fewest-3 c = let products = buffer-products (c .before .before .before .before .before .before .before .before .before .pre .1) in omega arith
 
 add-fewest-2 : tie.Need-add-fewest-2
-add-fewest-2 c = let products = buffer-products (c .before .before .before .before .before .before .before .before .pre) in omega arith
+add-fewest-2 c = let products = buffer-products (c .before .before .before .before .before .before .before .before .before .pre .1) in omega arith
 
 mul-fewest-4 : tie.Need-mul-fewest-4
 mul-fewest-4 c = search needs
@@ -63,22 +63,22 @@ shared-slice-read-fewest-2 : tie.Need-shared-slice-read-fewest-2
 shared-slice-read-fewest-2 c = search needs
 
 mul-fewest-6 : tie.Need-mul-fewest-6
-mul-fewest-6 c = let products = buffer-products (c .before .before .before .before .before .before .before .before .before .before .pre) in omega arith
+mul-fewest-6 c = let products = buffer-products (c .before .before .before .before .before .before .before .before .before .before .before .pre .1) in omega arith
 
 add-fewest-4 : tie.Need-add-fewest-4
-add-fewest-4 c = let products = buffer-products (c .before .before .before .before .before .before .before .before .before .before .pre) in omega arith
+add-fewest-4 c = let products = buffer-products (c .before .before .before .before .before .before .before .before .before .before .before .pre .1) in omega arith
 
 mul-fewest-7 : tie.Need-mul-fewest-7
 mul-fewest-7 c = search needs
 
-array-read-fewest : tie.Need-array-read-fewest
-array-read-fewest c = search needs
+shared-slice-read-fewest-3 : tie.Need-shared-slice-read-fewest-3
+shared-slice-read-fewest-3 c = search needs
 
 mul-fewest-8 : tie.Need-mul-fewest-8
-mul-fewest-8 c = let products = buffer-products (c .before .before .before .before .before .before .before .before .before .before .pre) in omega arith
+mul-fewest-8 c = let products = buffer-products (c .before .before .before .before .before .before .before .before .before .before .before .before .pre .1) in omega arith
 
 fewest-requires : tie.Need-fewest-requires
-fewest-requires c κs = buffer-products (c .before .before .before .before .before .before .before .before .before .before .pre) .period-some
+fewest-requires c κs = buffer-products (c .before .before .before .before .before .before .before .before .before .before .before .before .pre .1) .period-some
 
 returns : tie.Need-returns
 returns c = search needs
@@ -109,7 +109,7 @@ size-of-spec =
     mul-fewest-6
     add-fewest-4
     mul-fewest-7
-    array-read-fewest
+    shared-slice-read-fewest-3
     mul-fewest-8
     fewest-requires
     returns)

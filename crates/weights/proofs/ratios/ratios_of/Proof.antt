@@ -1,6 +1,6 @@
--- By the first conflict and the weights. Assumes nothing.
+-- Where every ratio is 1 so is every weight; otherwise the rows tell. Assumes nothing.
 use mathlib.Core.Path.{refl}
-use Rattle.weights.proofs.ratios.Decided.{closing, loop-numbers, weighing}
+use Rattle.weights.proofs.ratios.Unit.{unit-weights}
 use borrow.Author.Needs.{needs}
 use Rattle.weights.proofs.ratios.ratios_of.Statement.{statement}
 use Rattle.weights.proofs.ratios.ratios_of.Tie as tie
@@ -8,40 +8,32 @@ use Rattle.weights.proofs.ratios.ratios_of.Tie as tie
 components-requires : tie.Need-components-requires
 components-requires c κs = search needs
 
-spanned-requires : tie.Need-spanned-requires
-spanned-requires c κs = search needs
+most-part-requires : tie.Need-most-part-requires
+most-part-requires c κs = search needs
 
-conflict-requires : tie.Need-conflict-requires
-conflict-requires c κs = search needs
+ones-requires : tie.Need-ones-requires
+ones-requires c κs = search needs
 
-close-requires : tie.Need-close-requires
-close-requires c κs = closing (c .before .before .before .before .before .before .before .before .before .before .before .pre .0) (c .before .before .before .before .before .before .before .before .before .components .ensures) (c .before .before .before .before .before .before .before .spanned .ensures) (c .before .before .before .before .before .conflict .ensures) (c .before .before .before .if1 .taken) (c .before .before .before .before .before .before .before .before .before .before .before .pre .1)
+returns : tie.Need-returns
+returns c = record { components = c .before .before .before .components .ensures; outcome = (unit-weights (c .before .before .before .before .before .pre .0) (rw (c .before .if1 .taken) at (c .before .before .most-part .ensures)) (c .ones .ensures), refl) }
+
+by-rows-requires : tie.Need-by-rows-requires
+by-rows-requires c κs = search needs
 
 same-length : tie.Need-same-length
 same-length c = search needs
 
-returns : tie.Need-returns
-returns c = record { components = c .before .before .before .before .before .before .before .before .before .before .before .before .components .ensures; outcome = loop-numbers (c .before .before .before .before .before .before .before .before .before .before .before .before .before .before .pre .0) (c .before .before .before .before .before .before .before .before .before .before .before .before .components .ensures) (c .before .before .before .before .before .before .before .before .before .before .spanned .ensures) (c .before .before .before .before .before .before .before .before .conflict .ensures) (c .before .before .before .before .before .before .if1 .taken) (c .before .before .close .ensures) }
-
-weigh-requires : tie.Need-weigh-requires
-weigh-requires c κs = weighing (c .before .before .before .before .before .before .before .before .before .pre .0) (c .before .before .before .before .before .before .before .components .ensures) (c .before .before .before .before .before .spanned .ensures) (c .before .before .before .conflict .ensures) (c .before .if1 .left)
-
 returns-2 : tie.Need-returns-2
-returns-2 c = record { components = c .before .before .before .before .before .before .before .before .before .before .components .ensures; outcome = (c .before .before .weigh .ensures .within (c .if2 .taken), refl) }
-
-returns-3 : tie.Need-returns-3
-returns-3 c = record { components = c .before .before .before .before .before .before .before .before .before .before .components .ensures; outcome = (c .before .before .weigh .ensures .passes (c .if2 .left), refl) }
+returns-2 c = search needs
 
 pub ratios-of-spec : {M : Type 1} → statement M
 ratios-of-spec =
     tie.close
     (tie.spec
     components-requires
-    spanned-requires
-    conflict-requires
-    close-requires
-    same-length
+    most-part-requires
+    ones-requires
     returns
-    weigh-requires
-    returns-2
-    returns-3)
+    by-rows-requires
+    same-length
+    returns-2)

@@ -1,0 +1,167 @@
+//! The analysis of document 01 in ordinary Rust, apart from the parts in which its two implementations differ.
+
+use crate::answers;
+use crate::model::{each, read, Components, Model, Port, MOST_PORTS};
+
+const LEAST_ANSWER: usize = 5_120;
+
+/// The parts in which the implementations differ.
+pub trait Method {
+    /// Joins the components, which are ports alone, and sets the weights, which are 1.
+    fn weigh(model: &Model, weighed: &mut Weighed) -> Result<(), Unweighed>;
+
+    /// Prepares the model's connections for `settle`.
+    fn new(model: &Model, weighed: &Weighed) -> Self;
+
+    /// Turns to the next component.
+    fn choose(&mut self, members: u64);
+
+    /// Sets the least starts, times b, of the component's ports at a/b, or answers a cycle that is positive there.
+    fn settle(&mut self, period: Period, starts: &mut [i64; MOST_PORTS]) -> Result<(), Cycle>;
+}
+
+pub struct Weighed {
+    pub components: Components,
+    pub weights: [u64; MOST_PORTS],
+}
+
+/// Why there are no weights: a loop of links whose ratios disagree, or a weight above the limit.
+pub enum Unweighed {
+    Disagreeing(Vec<Step>),
+    Heavy,
+}
+
+#[derive(Clone, Copy)]
+pub struct Step {
+    pub link: u16,
+    pub against: bool,
+}
+
+/// The connections of a cycle in walking order, the sum of their ticks, and that of their events times the sender's weight.
+pub struct Cycle {
+    pub links: Vec<u16>,
+    pub ticks: i32,
+    pub events: i32,
+}
+
+impl Cycle {
+    /// From link, ticks and events of its connections, the last of them first.
+    pub fn backwards(connections: impl Iterator<Item = (u16, i32, i32)>) -> Self {
+        let mut cycle = Cycle { links: Vec::with_capacity(MOST_PORTS), ticks: 0, events: 0 };
+        for (link, ticks, events) in connections {
+            cycle.links.push(link);
+            cycle.ticks += ticks;
+            cycle.events += events;
+        }
+        cycle.links.reverse();
+        cycle
+    }
+}
+
+/// a/b of a component, in lowest terms.
+#[derive(Clone, Copy)]
+pub struct Period {
+    pub a: u32,
+    pub b: u32,
+}
+
+impl Period {
+    fn reduced(a: u32, b: u32) -> Self {
+        match gcd(a, b) {
+            1 => Period { a, b },
+            common => Period { a: a / common, b: b / common },
+        }
+    }
+
+    /// What a delay comes to, times b.
+    pub fn delay(self, ticks: i32, events: i32) -> i64 {
+        i64::from(ticks) * i64::from(self.b) + i64::from(events) * i64::from(self.a)
+    }
+}
+
+pub fn gcd(mut x: u32, mut y: u32) -> u32 {
+    while y != 0 {
+        (x, y) = (y, x % y);
+    }
+    x
+}
+
+/// The limit that a/b is.
+pub enum Floor {
+    Port(usize),
+    Cycle(Vec<u16>),
+}
+
+/// Why a component has no period.
+pub struct Blocked {
+    pub floor: Floor,
+    pub block: Vec<u16>,
+}
+
+/// For each component, at its lowest port, its a/b; for each port its start times b.
+pub struct Timing {
+    pub periods: [Period; MOST_PORTS],
+    pub starts: [i64; MOST_PORTS],
+}
+
+/// Answers the number and the bytes written; all other bytes of the answer keep their values.
+pub fn analyse<M: Method>(table: &[u8], answer: &mut [u8]) -> (u64, usize) {
+    if answer.len() < LEAST_ANSWER {
+        return (1, 0);
+    }
+    let model = match read(table) {
+        Ok(model) => model,
+        Err(number) => return (number, 0),
+    };
+    let mut weighed = Weighed { components: Components::ALONE, weights: [1; MOST_PORTS] };
+    match M::weigh(&model, &mut weighed) {
+        Ok(()) => (),
+        Err(Unweighed::Disagreeing(steps)) => return (13, answers::write_loop(answer, &steps)),
+        Err(Unweighed::Heavy) => return (14, 0),
+    }
+    let mut timing = Timing { periods: [Period { a: 0, b: 0 }; MOST_PORTS], starts: [0; MOST_PORTS] };
+    let mut method = M::new(&model, &weighed);
+    for name in weighed.components.names(model.ports.len()) {
+        let members = weighed.components.members(name);
+        method.choose(members);
+        let (port, limit) = greatest_limit(&model, &weighed.weights, members);
+        match least_period(&mut method, port, limit, &mut timing.starts) {
+            Ok(period) => timing.periods[name] = period,
+            Err(blocked) => return (15, answers::write_blocked(answer, &blocked)),
+        }
+    }
+    (0, answers::write_consistent(answer, &model, &weighed, &timing))
+}
+
+/// The greatest of the rate limits, denominator over numerator times weight, and its port.
+fn greatest_limit(model: &Model, weights: &[u64; MOST_PORTS], members: u64) -> (usize, Period) {
+    let (mut port, mut a, mut b) = (0, 0, 1);
+    for p in each(members) {
+        let Port { num, den } = model.ports[p];
+        let (limit_a, limit_b) = (u64::from(den), u64::from(num) * weights[p]);
+        if limit_a * b > a * limit_b {
+            (port, a, b) = (p, limit_a, limit_b);
+        }
+    }
+    (port, Period::reduced(a as u32, b as u32))
+}
+
+/// The least a/b of a component, from the rate limit of a port on; its least starts, times b, in starts.
+fn least_period<M: Method>(
+    method: &mut M,
+    port: usize,
+    limit: Period,
+    starts: &mut [i64; MOST_PORTS],
+) -> Result<Period, Blocked> {
+    let mut period = limit;
+    let mut floor = Floor::Port(port);
+    while let Err(cycle) = method.settle(period, starts) {
+        if cycle.events >= 0 {
+            return Err(Blocked { floor, block: cycle.links });
+        }
+        // positive with events below zero: so the ticks are above zero, and this a/b is greater
+        period = Period::reduced(cycle.ticks as u32, -cycle.events as u32);
+        floor = Floor::Cycle(cycle.links);
+    }
+    Ok(period)
+}

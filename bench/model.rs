@@ -1,0 +1,188 @@
+//! The model of a table: its types, and reading it from bytes.
+
+pub const MOST_PORTS: usize = 64;
+pub const MOST_LINKS: usize = 256;
+pub const MOST_PART: u16 = 1_000;
+pub const MOST_TICKS: i32 = 10_000_000;
+pub const MOST_EVENTS: i32 = 1_000;
+pub const MOST_WEIGHT: u64 = 10_000;
+
+/// The parts of a port's maximum rate.
+#[derive(Clone, Copy)]
+pub struct Port {
+    pub num: u16,
+    pub den: u16,
+}
+
+/// A connection, or a buffer, whose events stay zero.
+#[derive(Clone, Copy)]
+pub struct Link {
+    pub from: u8,
+    pub to: u8,
+    pub num: u16,
+    pub den: u16,
+    pub is_buffer: bool,
+    pub ticks: i32,
+    pub events: i32,
+}
+
+impl Link {
+    pub fn ends(&self) -> (usize, usize) {
+        (self.from as usize, self.to as usize)
+    }
+}
+
+pub struct Model {
+    pub ports: Vec<Port>,
+    pub links: Vec<Link>,
+}
+
+impl Model {
+    /// The connections with their numbers.
+    pub fn connections(&self) -> impl Iterator<Item = (usize, &Link)> {
+        self.links.iter().enumerate().filter(|(_, link)| !link.is_buffer)
+    }
+
+    pub fn buffers(&self) -> impl Iterator<Item = (usize, &Link)> {
+        self.links.iter().enumerate().filter(|(_, link)| link.is_buffer)
+    }
+}
+
+/// The ports of a set, lowest first.
+pub fn each(mut set: u64) -> impl Iterator<Item = usize> {
+    std::iter::from_fn(move || {
+        if set == 0 {
+            return None;
+        }
+        let port = set.trailing_zeros() as usize;
+        set &= set - 1;
+        Some(port)
+    })
+}
+
+/// The components of a model, or of some of its links: the ports of a component have one label, and each label its set of ports.
+pub struct Components {
+    pub labels: [u8; MOST_PORTS],
+    pub sets: [u64; MOST_PORTS],
+}
+
+impl Components {
+    /// Every port in a component of its own.
+    pub const ALONE: Components = {
+        let mut components = Components { labels: [0; MOST_PORTS], sets: [0; MOST_PORTS] };
+        let mut port = 0;
+        while port < MOST_PORTS {
+            components.labels[port] = port as u8;
+            components.sets[port] = 1 << port;
+            port += 1;
+        }
+        components
+    };
+
+    pub fn members(&self, port: usize) -> u64 {
+        self.sets[self.labels[port] as usize]
+    }
+
+    /// The port that names the component.
+    pub fn lowest(&self, port: usize) -> usize {
+        self.members(port).trailing_zeros() as usize
+    }
+
+    /// The ports that name components, of so many ports.
+    pub fn names(&self, ports: usize) -> impl Iterator<Item = usize> + '_ {
+        (0..ports).filter(|&port| self.lowest(port) == port)
+    }
+}
+
+/// The model of a table, or the number of the first fault.
+pub fn read(table: &[u8]) -> Result<Model, u64> {
+    // a port takes 8 bytes, the shortest link 16
+    let mut ports = Vec::with_capacity(MOST_PORTS.min(table.len() / 8));
+    let mut links = Vec::with_capacity(MOST_LINKS.min(table.len() / 16));
+    let mut rest = table;
+    while !rest.is_empty() {
+        if rest.len() < 2 {
+            return Err(2);
+        }
+        let length = u16_at(rest, 0) as usize;
+        if length < 2 || length > rest.len() - 2 {
+            return Err(2);
+        }
+        let (record, after) = rest[2..].split_at(length);
+        rest = after;
+        match u16_at(record, 0) {
+            1 => {
+                let record: &[u8; 6] = record.try_into().map_err(|_| 4u64)?;
+                if !links.is_empty() {
+                    return Err(5);
+                }
+                if ports.len() == MOST_PORTS {
+                    return Err(6);
+                }
+                ports.push(read_port(record)?);
+            }
+            2 => {
+                let record: &[u8; 18] = record.try_into().map_err(|_| 4u64)?;
+                if links.len() == MOST_LINKS {
+                    return Err(7);
+                }
+                let mut link = read_link(record, ports.len(), false)?;
+                link.events = i32_at(record, 14);
+                if !(-MOST_EVENTS..=MOST_EVENTS).contains(&link.events) {
+                    return Err(11);
+                }
+                links.push(link);
+            }
+            3 => {
+                let record: &[u8; 14] = record.try_into().map_err(|_| 4u64)?;
+                if links.len() == MOST_LINKS {
+                    return Err(7);
+                }
+                links.push(read_link(record, ports.len(), true)?);
+            }
+            _ => return Err(3),
+        }
+    }
+    if ports.is_empty() {
+        return Err(12);
+    }
+    Ok(Model { ports, links })
+}
+
+fn read_port(record: &[u8; 6]) -> Result<Port, u64> {
+    let (num, den) = (u16_at(record, 2), u16_at(record, 4));
+    if !is_part(num) || !is_part(den) {
+        return Err(8);
+    }
+    Ok(Port { num, den })
+}
+
+/// What connections and buffers share.
+#[inline(always)]
+fn read_link(record: &[u8], ports: usize, is_buffer: bool) -> Result<Link, u64> {
+    let (from, to) = (u16_at(record, 2), u16_at(record, 4));
+    if from as usize >= ports || to as usize >= ports {
+        return Err(9);
+    }
+    let (num, den) = (u16_at(record, 6), u16_at(record, 8));
+    if !is_part(num) || !is_part(den) {
+        return Err(10);
+    }
+    let ticks = i32_at(record, 10);
+    if !(-MOST_TICKS..=MOST_TICKS).contains(&ticks) {
+        return Err(11);
+    }
+    Ok(Link { from: from as u8, to: to as u8, num, den, is_buffer, ticks, events: 0 })
+}
+
+fn is_part(x: u16) -> bool {
+    (1..=MOST_PART).contains(&x)
+}
+
+fn u16_at(bytes: &[u8], at: usize) -> u16 {
+    u16::from_le_bytes([bytes[at], bytes[at + 1]])
+}
+
+fn i32_at(bytes: &[u8], at: usize) -> i32 {
+    i32::from_le_bytes([bytes[at], bytes[at + 1], bytes[at + 2], bytes[at + 3]])
+}

@@ -1,2 +1,0 @@
--- Lemmas on the table of least divisors, for the proof of the function of src/divisors.rt.
-mod Table

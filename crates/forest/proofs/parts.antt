@@ -1,0 +1,2 @@
+-- What the proof on the parts of ratios uses.
+mod Most

@@ -1,0 +1,33 @@
+-- A table whose ratios are all 1: every weight is 1. Assumes nothing.
+use Prim.Native.Nat.{ℕ, _*_}
+use mathlib.Core.Path.{_≡_, ap₂, _∙_, sym}
+use mathlib.Core.List.{List}
+use native.Mathlib.Decide.{ℕ-discrete}
+use native.Mathlib.Omega.{arith}
+use Rattle.table.specs.Limits.{WellFormed}
+use Rattle.table.specs.declared.Table.{Table}
+use Rattle.ways.specs.Model.{IsLink, from, to, num, den}
+use Rattle.forest.specs.PortRows.{MostPart}
+use Rattle.weights.specs.Weighed.{Ones, HasWeights}
+
+module _ {t : Table} (formed : WellFormed t) (none : MostPart t 0) where
+  ratio-one : (k : ℕ) → IsLink t k → Dec (num t k ≡ den t k) → num t k ≡ den t k
+  ratio-one k i (yes e) = e
+  ratio-one k i (no d) = absurd (omega (arith, none .num-most k i d, formed .links k (i .below) .num .least))
+
+  pub unit-weights : {weights : List ℕ} → Ones (t .«port_count») weights → HasWeights t weights
+  unit-weights {weights} o = record {
+    long = o .long;
+    are = record {
+      proportional = record {
+        positive = λ p i. omega (arith, o .one p (i .below));
+        fits = λ k i.
+            ap₂ (λ (x y : ℕ). x * y)
+            (o .one (to t k) (formed .links k (i .below) .to) ∙ sym (o .one (from t k) (formed .links k (i .below) .from)))
+            (ratio-one k i (ℕ-discrete (num t k) (den t k)));
+      };
+      smallest = λ v h p i. omega (arith, o .one p (i .below), h .positive p i);
+    };
+    small = λ p i. omega (arith, o .one p (i .below));
+    rest = o .rest;
+  }
