@@ -8,6 +8,7 @@ mod inputs;
 mod model;
 mod ordinary;
 mod proved;
+mod stack;
 mod validate;
 
 use std::fmt::Write;
@@ -29,6 +30,7 @@ const MOST_SAMPLES: f64 = 10_000.0;
 
 fn main() {
     compare();
+    fit_stack();
     time();
 }
 
@@ -62,6 +64,15 @@ fn compare() {
     for (number, count) in counts.iter().enumerate() {
         println!("  answer {number:2}: {count:6}");
     }
+}
+
+fn fit_stack() {
+    let mut random = inputs::Random::new(SEED);
+    let workloads = inputs::workloads().into_iter().map(|workload| (workload.table, proved::ANSWER_BYTES));
+    let inputs: Vec<_> = workloads.chain((0..COMPARED).map(|_| inputs::random_input(&mut random))).collect();
+    let count = inputs.len();
+    stack::answer_all(inputs);
+    println!("stack: {count} inputs answered by proved in a thread with a stack of {} bytes", proved::STACK_BYTES);
 }
 
 /// What one side answers.

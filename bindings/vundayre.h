@@ -8,6 +8,10 @@
 /* An answer buffer of this many bytes suffices for every table; a shorter one is refused with number 1. */
 #define VUNDAYRE_ANSWER_BYTES 5120
 
+/* A thread with a stack of this many bytes can analyse every table (its frames take 90,560 of them and it does not recurse; bench/run tries it
+   out; it is not proved). */
+#define VUNDAYRE_STACK_BYTES 98304
+
 struct vundayre_outcome {
     /* Document 01's number: 0 is consistent, 1 to 15 are refusals. */
     uint64_t number;

@@ -6,12 +6,11 @@ use mathlib.Core.List.{List, [], _∷_}
 use native.Mathlib.Omega.{arith}
 use lib.ListN.{getD}
 use Rattle.fraction.specs.Rational.{Rational, _≈_, _⊕_, _·_, whole}
-use Rattle.table.specs.Reading.{tableOf}
 use Rattle.table.specs.declared.Ticks.{Ticks}
 use Rattle.table.specs.declared.Events.{Events}
 use Rattle.table.specs.declared.Port.{Port}
 use Rattle.table.specs.declared.Link.{Link}
-use Rattle.table.specs.declared.Table.{Table}
+use Rattle.table.specs.Table.{Table}
 use Rattle.ways.specs.Ways.{Step, stay, walk}
 use Rattle.answers.specs.Constraints.{IsConnection}
 use Rattle.answers.specs.Answers.{Timing, periodOf, startOf, rate, cycle, Answer, disagreeing, overweight, blocked, consistent, Right}
@@ -113,14 +112,14 @@ models =
 
 -- ---- the lemma
 abbrev tableIn : Model → Table
-tableIn m = tableOf (m .ports) (m .links)
+tableIn m = record { ports = m .ports; links = m .links }
 
 data EachRight : List Model → Type 0 where
   end : EachRight []
   also : {m : Model} {ms : List Model} → Right (tableIn m) (m .answer) → EachRight ms → EachRight (m ∷ ms)
 
 I-right : Right (tableIn I) (I .answer)
-unfolding tableOf I _gives_
+unfolding I _gives_
 I-right = record {
   at = 0;
   way = walk (along 1) (record { below = omega arith }) (walk (against 0) (record { below = omega arith }) stay);
@@ -131,7 +130,7 @@ I-right = record {
 
 -- a floor, or weights and a/b at the floor, show what the tests compute
 models-right : EachRight models
-unfolding tableOf models A A-timing I _gives_
+unfolding models A A-timing I _gives_
 models-right =
     also (consistent-by (cycle (0 ∷ 1 ∷ [])) tt)
     (also (consistent-by (rate 0) tt)
@@ -148,7 +147,7 @@ models-right =
 
 -- ---- model A: event 4 of port 1 is reached at 9, and is allowed until 9
 A-chain : (time : Rational) × Chain (tableIn A) (A-timing .size) 1 4 time × (time ≈ whole 9)
-unfolding tableOf A A-timing _gives_
+unfolding A A-timing _gives_
 A-chain = (
   _,
   connection 0 4 zeroth (connection 1 4 other (connection 0 2 zeroth (connection 1 2 other (connection 0 0 zeroth

@@ -13,10 +13,10 @@ use Rattle.fraction.specs.Gcd.{Coprime}
 use Rattle.exponents.specs.Tests.{both, both-left, both-right, either, either-cases}
 use Rattle.rounds.specs.Lists.{_∈_, sum, Distinct, none, more}
 use Rattle.rounds.specs.Graph.{Graph, Walk, stop, step, reached, gain, loss, Meets, LeastStarts, Cycle}
-use Rattle.table.specs.Limits.{mostPorts, mostLinks, mostPart, mostTicks, mostEvents, PartFits, PortFits, LinkFits, port, link, WellFormed}
+use Rattle.table.specs.Limits.{mostPorts, mostLinks, mostPart, mostTicks, mostEvents, PartFits, PortFits, LinkFits, WellFormed}
 use Rattle.table.specs.declared.Port.{Port}
 use Rattle.table.specs.declared.Link.{Link}
-use Rattle.table.specs.declared.Table.{Table}
+use Rattle.table.specs.Table.{Table, portCount, linkCount, port, link}
 use Rattle.ways.specs.Model.{IsPort, IsLink, from, to, num, den}
 use Rattle.ways.specs.Ways.{Joined, Component}
 use Rattle.ways.specs.Weights.{Proportional, Weights}
@@ -113,10 +113,10 @@ link-fits n l h = record {
 
 module _ (t : Table) where
   abbrev ports : ℕ
-  ports = t .«port_count»
+  ports = portCount t
 
   abbrev links : ℕ
-  links = t .«link_count»
+  links = linkCount t
 
   abbrev formed : List Bool
   formed =

@@ -7,9 +7,8 @@ use mathlib.Core.List.{List, [], _∷_, _++_}
 use Rattle.fraction.specs.Rational.{Rational, share}
 use Rattle.records.specs.Answer.{portAnswer, bufferAnswer, loopAnswer, cycleAnswer, floorAnswer}
 use Rattle.rounds.specs.Graph.{Graph, LeastStarts}
-use Rattle.table.specs.Limits.{link}
 use Rattle.table.specs.Reading.{readTable}
-use Rattle.table.specs.declared.Table.{Table}
+use Rattle.table.specs.Table.{Table, portCount, linkCount, link}
 use Rattle.ways.specs.Model.{IsPort, from, to}
 use Rattle.ways.specs.Ways.{Step, Component}
 use Rattle.ways.specs.Weights.{Weights}
@@ -80,7 +79,7 @@ records t (refused n) = []
 records t (disagreeing loop) = loopAnswer (loopNumbers loop)
 records t overweight = []
 records t (blocked floor block) = floorRecord floor ++ cycleAnswer block
-records t (consistent r) = portRecords r (t .«port_count») ++ bufferRecords t r (t .«link_count»)
+records t (consistent r) = portRecords r (portCount t) ++ bufferRecords t r (linkCount t)
 
 -- ---- which answers are right
 -- a/b is the floor

@@ -4,8 +4,8 @@ use mathlib.Core.Path.{_≡_, ap}
 use native.Mathlib.Nat.{div-mul-le-self, mul-le-mul-right, le-of-mul-le-mul-right}
 use native.Mathlib.Omega.{arith}
 use Rattle.fraction.specs.Rational.{Rational, _≼_, _⊕_, _·_, share}
-use Rattle.table.specs.Limits.{port, WellFormed}
-use Rattle.table.specs.declared.Table.{Table}
+use Rattle.table.specs.Limits.{WellFormed}
+use Rattle.table.specs.Table.{Table, port}
 use Rattle.ways.specs.Model.{IsPort, IsLink, from, to, num, den}
 use Rattle.ways.specs.WayLaws.{linked}
 use Rattle.answers.specs.Constraints.{IsConnection, IsBuffer, ε⁺, ε⁻, δ⁺, δ⁻, ConnectionIn}

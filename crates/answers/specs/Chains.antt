@@ -2,8 +2,7 @@
 use Prim.Native.Nat.{ℕ, suc, _+_, _*_, _/_, _<_}
 use mathlib.Core.Path.{_≡_}
 use Rattle.fraction.specs.Rational.{Rational, _≼_, _≺_, _⊕_, _·_, whole, share}
-use Rattle.table.specs.Limits.{port}
-use Rattle.table.specs.declared.Table.{Table}
+use Rattle.table.specs.Table.{Table, port}
 use Rattle.ways.specs.Model.{IsPort, IsLink, from, to, num, den}
 use Rattle.ways.specs.Ways.{Component}
 use Rattle.answers.specs.Constraints.{IsConnection, IsBuffer, δ⁺, δ⁻, PortIn}

@@ -1,7 +1,7 @@
 -- Laws of the constraint graph: the ends of its connections are ports of the component, and a port names it. Assumes nothing.
 use Prim.Native.Nat.{ℕ}
 use Rattle.table.specs.Limits.{WellFormed}
-use Rattle.table.specs.declared.Table.{Table}
+use Rattle.table.specs.Table.{Table}
 use Rattle.ways.specs.Model.{IsPort, IsLink, from, to}
 use Rattle.ways.specs.Ways.{Component}
 use Rattle.ways.specs.WayLaws.{linked, joined-component, way-port}

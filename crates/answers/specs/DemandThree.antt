@@ -9,7 +9,7 @@ use Rattle.rounds.specs.Lists.{lt-or-le}
 use Rattle.table.specs.Limits.{WellFormed}
 use Rattle.table.specs.Reading.{readTable}
 use Rattle.table.specs.ReadingFacts.{well-formed}
-use Rattle.table.specs.declared.Table.{Table}
+use Rattle.table.specs.Table.{Table}
 use Rattle.answers.specs.Answers.{Timing, Consistent, consistent, number, leastRoom, AnswerOf}
 use Rattle.answers.specs.Demands.{Demand3}
 use Rattle.answers.specs.BoundedChains.{bounded-chains}

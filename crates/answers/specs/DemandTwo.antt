@@ -7,10 +7,10 @@ use native.Mathlib.Nat.{div-mul-le-self, lt-mul-div-succ, mul-pos, mul-le-mul-ri
 use native.Mathlib.Omega.{arith}
 use Rattle.fraction.specs.Rational.{Rational, _≼_, _⊕_, whole, share, ratio, ≼-trans, ≈-≼, ≈-sym, ⊕-right-≼, as-share}
 use Rattle.rounds.specs.Graph.{gain, loss, Meets}
-use Rattle.table.specs.Limits.{WellFormed, port}
+use Rattle.table.specs.Limits.{WellFormed}
 use Rattle.table.specs.Reading.{readTable}
 use Rattle.table.specs.ReadingFacts.{well-formed}
-use Rattle.table.specs.declared.Table.{Table}
+use Rattle.table.specs.Table.{Table, port}
 use Rattle.ways.specs.Model.{IsPort, IsLink, from, to, den}
 use Rattle.ways.specs.Ways.{Joined, Component}
 use Rattle.ways.specs.Weights.{Proportional}

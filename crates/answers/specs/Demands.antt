@@ -4,7 +4,7 @@ use mathlib.Core.Path.{_≡_}
 use mathlib.Core.Logic.{_≢_}
 use lib.ListN.{length}
 use Rattle.fraction.specs.Rational.{Rational, _≼_, whole}
-use Rattle.table.specs.declared.Table.{Table}
+use Rattle.table.specs.Table.{Table}
 use Rattle.ways.specs.Model.{IsPort}
 use Rattle.answers.specs.Answers.{Timing, periodOf, startOf, Answer, consistent, number, records, leastRoom}
 use Rattle.answers.specs.Constraints.{IsBuffer}

@@ -11,10 +11,10 @@ use Rattle.fraction.specs.Rational.{Rational, _≼_, _≈_, ≼-trans, ≼-anti
 use Rattle.fraction.specs.Gcd.{coprime-unique}
 use Rattle.records.specs.Answer.{bufferAnswer}
 use Rattle.rounds.specs.Lists.{lt-or-le}
-use Rattle.table.specs.Limits.{WellFormed, link}
+use Rattle.table.specs.Limits.{WellFormed}
 use Rattle.table.specs.Reading.{readTable}
 use Rattle.table.specs.ReadingFacts.{well-formed}
-use Rattle.table.specs.declared.Table.{Table}
+use Rattle.table.specs.Table.{Table, portCount, linkCount, link}
 use Rattle.ways.specs.Model.{IsPort, from, to}
 use Rattle.ways.specs.Ways.{Step}
 use Rattle.ways.specs.Weights.{Weights}
@@ -115,7 +115,7 @@ module _ {t : Table} (formed : WellFormed t) where
           (same-port v u (to t k) (to-port formed k (i .a-link))) (v .sizes k i .enough))
 
   module _ {r r′ : Timing} (h : Consistent t r) (h′ : Consistent t r′) where
-    same-ports : (n : ℕ) → n ≤ t .«port_count» → portRecords r n ≡ portRecords r′ n
+    same-ports : (n : ℕ) → n ≤ portCount t → portRecords r n ≡ portRecords r′ n
     unfolding portRecords
     same-ports zero m = refl
     same-ports (suc n) m =
@@ -127,7 +127,7 @@ module _ {t : Table} (formed : WellFormed t) where
     buffer-same n true e = ap (bufferAnswer n) (e refl)
     buffer-same n false e = refl
 
-    same-buffers : (n : ℕ) → n ≤ t .«link_count» → bufferRecords t r n ≡ bufferRecords t r′ n
+    same-buffers : (n : ℕ) → n ≤ linkCount t → bufferRecords t r n ≡ bufferRecords t r′ n
     unfolding bufferRecords
     same-buffers zero m = refl
     same-buffers (suc n) m = rw (
@@ -172,8 +172,8 @@ same-answer {t} {x = consistent r} {y = consistent r′} formed h k = record {
   same-number = refl;
   same-records = λ e f.
       rw (
-        same-ports formed h k (t .«port_count») (le-refl (t .«port_count»)),
-        same-buffers formed h k (t .«link_count») (le-refl (t .«link_count»)),
+        same-ports formed h k (portCount t) (le-refl (portCount t)),
+        same-buffers formed h k (linkCount t) (le-refl (linkCount t)),
       );
 }
 

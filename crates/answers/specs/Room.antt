@@ -13,8 +13,8 @@ use Rattle.records.specs.Answer.{encode, portAnswer, bufferAnswer, loopAnswer, 
 use Rattle.rounds.specs.Lists.{_∈_, pigeonhole}
 use Rattle.rounds.specs.Graph.{Cycle}
 use Rattle.rounds.specs.Walks.{Among, cycle-short}
-use Rattle.table.specs.Limits.{WellFormed, link}
-use Rattle.table.specs.declared.Table.{Table}
+use Rattle.table.specs.Limits.{WellFormed}
+use Rattle.table.specs.Table.{Table, portCount, linkCount, link}
 use Rattle.ways.specs.Model.{IsLink, from, to}
 use Rattle.ways.specs.Ways.{Step, comes, Way, stay, walk}
 use Rattle.answers.specs.Constraints.{graphIn}
@@ -86,27 +86,27 @@ below-in (suc n) h = ⊎-elim (λ e. here e) (λ l. there (below-in n l)) (eq-or
 
 module _ {t : Table} (formed : WellFormed t) where
   abbrev ports : List ℕ
-  ports = numbersBelow (t .«port_count»)
+  ports = numbersBelow (portCount t)
 
-  come-port : (k : ℕ) (b : Bool) → IsLink t k → cond b (from t k) (to t k) < t .«port_count»
+  come-port : (k : ℕ) (b : Bool) → IsLink t k → cond b (from t k) (to t k) < portCount t
   come-port k true i = formed .links k (i .below) .from
   come-port k false i = formed .links k (i .below) .to
 
   comes-in : {p q : ℕ} {path : List Step} → Way t p q path → (x : ℕ) → x ∈ map (comes t) path → x ∈ ports
   comes-in stay x m = elim m [ ]
-  comes-in (walk s i w) x (here e) = rw e (below-in (t .«port_count») (come-port (s .number) (s .against) i))
+  comes-in (walk s i w) x (here e) = rw e (below-in (portCount t) (come-port (s .number) (s .against) i))
   comes-in (walk s i w) x (there m) = comes-in w x m
 
   module _ (w : ℕ → ℕ) (c : ℕ) where
     ports-among : Among (graphIn t w c) ports
     ports-among = record {
-      from-in = λ k e. below-in (t .«port_count») (formed .links k (e .connection .a-link .below) .from);
-      to-in = λ k e. below-in (t .«port_count») (formed .links k (e .connection .a-link .below) .to);
+      from-in = λ k e. below-in (portCount t) (formed .links k (e .connection .a-link .below) .from);
+      to-in = λ k e. below-in (portCount t) (formed .links k (e .connection .a-link .below) .to);
     }
 
     cycle-fits : {path : List ℕ} → Cycle (graphIn t w c) path → length (cycleAnswer path) ≤ 132
     cycle-fits {path} h =
-        omega (arith, cycle-record path, cycle-short ports-among h, below-length (t .«port_count»), formed .few-ports)
+        omega (arith, cycle-record path, cycle-short ports-among h, below-length (portCount t), formed .few-ports)
 
     floor-fits : (floor : Floor) (a b : ℕ) → IsFloor (graphIn t w c) floor a b → length (floorRecord floor) ≤ 132
     unfolding floorAnswer encode bytes
@@ -123,7 +123,7 @@ fits-room {t} {x} formed right = record { fits = fits x right }
       loop-record loop,
       length-map loop (comes t),
       pigeonhole (h .ports) (comes-in formed (h .way)),
-      below-length (t .«port_count»),
+      below-length (portCount t),
       formed .few-ports,
     )
     fits overweight h = omega arith
@@ -134,8 +134,8 @@ fits-room {t} {x} formed right = record { fits = fits x right }
     ))
     fits (consistent r) h = simp length-append (omega (
       arith,
-      port-records r (t .«port_count»),
-      buffer-records t r (t .«link_count»),
+      port-records r (portCount t),
+      buffer-records t r (linkCount t),
       formed .few-ports,
       formed .few-links,
     ))

@@ -6,7 +6,7 @@ use Rattle.fraction.specs.Gcd.{coprime-unique}
 use Rattle.period.specs.Periods.{Period}
 use Rattle.period.specs.Limits.{period-least}
 use Rattle.table.specs.Limits.{WellFormed}
-use Rattle.table.specs.declared.Table.{Table}
+use Rattle.table.specs.Table.{Table}
 use Rattle.ways.specs.Model.{IsPort}
 use Rattle.ways.specs.Ways.{Joined}
 use Rattle.ways.specs.WayLaws.{component-unique, joined-component}

@@ -34,7 +34,7 @@ use Rattle.fraction.specs.Rational.{
 use Rattle.rounds.specs.Lists.{sum}
 use Rattle.rounds.specs.Graph.{Graph, Walk, stop, step, gain, loss}
 use Rattle.table.specs.Limits.{WellFormed}
-use Rattle.table.specs.declared.Table.{Table}
+use Rattle.table.specs.Table.{Table}
 use Rattle.ways.specs.Model.{IsLink, from, to, num, den}
 use Rattle.ways.specs.Ways.{Step, leaves, comes, Way, stay, walk, above, below, Agree, Joined}
 use Rattle.ways.specs.Weights.{Proportional}

@@ -1,8 +1,7 @@
 -- Demand 2's other side: rational periods and starts, of any sign, that meet (1) to (3). Assumes nothing.
 use Prim.Native.Nat.{ℕ, _≤_}
 use Rattle.fraction.specs.Rational.{Rational, _≼_, _≺_, _≈_, _⊕_, _·_, _⊗_, whole, signed}
-use Rattle.table.specs.Limits.{port}
-use Rattle.table.specs.declared.Table.{Table}
+use Rattle.table.specs.Table.{Table, port}
 use Rattle.ways.specs.Model.{IsPort, IsLink, from, to, num, den}
 use Rattle.answers.specs.Constraints.{IsConnection, ε⁺, ε⁻, δ⁺, δ⁻}
 

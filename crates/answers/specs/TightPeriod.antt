@@ -11,8 +11,8 @@ use Rattle.fraction.specs.Rational.{≼-≺-trans, ≺-≼-trans, ≈-≼, ≈-
 use Rattle.rounds.specs.Lists.{sum, sum-linear}
 use Rattle.rounds.specs.Graph.{Graph, Walk, stop, step}
 use Rattle.period.specs.Periods.{RateLimit, CycleLimit}
-use Rattle.table.specs.Limits.{port, WellFormed}
-use Rattle.table.specs.declared.Table.{Table}
+use Rattle.table.specs.Limits.{WellFormed}
+use Rattle.table.specs.Table.{Table, port}
 use Rattle.ways.specs.Model.{IsPort, IsLink, from, to, num, den}
 use Rattle.ways.specs.Ways.{Step, Way, stay, walk, Component}
 use Rattle.ways.specs.WayLaws.{linked, joined-sym, joined-component}

@@ -1,8 +1,10 @@
--- The slices of a component, and what the search over them says of the table's own graph.
+-- The slices of a table's components, and what the search over them says of the table's own graph.
 pub mod Slices
-pub mod Numbered
-pub mod Searched
-pub mod NumberedLaws
 pub mod SliceLists
+pub mod Arranged
+pub mod Searched
+pub mod Numbered
+pub mod NumberedLaws
 pub mod SliceLaws
-pub mod LinkLaws
+pub mod SearchedLaws
+pub mod ArrangedLaws

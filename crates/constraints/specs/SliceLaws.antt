@@ -1,110 +1,124 @@
--- The slices of a component are its graph with the connections numbered anew, and what a search over them asks. Assumes nothing.
+-- The slices of a component are its graph with the connections numbered anew: what a search over them asks, and what it says of the
+-- table's own graph. Assumes nothing.
 use Prim.Native.Nat.{ℕ, _+_, _*_, _/_, _≤_, _<_}
-use mathlib.Core.Path.{_≡_, sym, ap, _∙_}
+use mathlib.Core.Path.{_≡_, refl, ap, sym, _∙_}
 use mathlib.Core.Logic.{⊎-elim}
+use mathlib.Core.Bool.{Bool, true, false}
 use mathlib.Core.List.{List, [], _∷_}
 use native.Mathlib.Omega.{arith}
 use native.Mathlib.Nat.{mul-le-mul, mul-pos}
-use lib.ListN.{length, getD, drop, List·getD-append}
+use lib.ListN.{length, getD, length-take, List·getD-append}
+use lib.Seq.{getD-take}
 use Rattle.rounds.specs.Lists.{_∈_, lt-or-le, position}
 use Rattle.rounds.specs.Walks.{Among}
-use Rattle.records.specs.Answer.{Written}
-use Rattle.table.specs.Limits.{port, link, LinkFits}
-use Rattle.table.specs.declared.Table.{Table}
+use Rattle.table.specs.Limits.{LinkFits}
+use Rattle.table.specs.Table.{Table, portCount, linkCount, port, link}
 use Rattle.ways.specs.Model.{IsPort, IsLink, from}
 use Rattle.ways.specs.Ways.{Component as InComponent}
 use Rattle.ways.specs.WayLaws.{linked, joined-component, component-unique}
 use Rattle.weights.specs.Weighed.{HasWeights, mostWeight}
+use Rattle.order.specs.OrderLaws.{keyed-below, keyed-key, keyed-in, few-keyed}
 use Rattle.period.specs.Component.{graphOf, mostPart, SmallEdges, SmallLimits, Component}
-use Rattle.period.specs.Search.{Room}
 use Rattle.period.specs.Taken.{member-at}
 use Rattle.answers.specs.Constraints.{PortIn, ConnectionIn, graphIn}
 use Rattle.answers.specs.Answers.{IsComponent}
-use Rattle.constraints.specs.Slices.{portsIn, connectionsIn, limitsOf, edgeOf, edgesOf, WeightsSmall}
-use Rattle.constraints.specs.SliceLists.{port-below, port-label, port-in, few-ports, connection-below, connection-events, connection-label}
-use Rattle.constraints.specs.SliceLists.{connection-in, few-connections, limits-length, limits-at, edges-length, edges-at}
+use Rattle.constraints.specs.Slices.{limitsOf, edgeOf, ownerOf, WeightsSmall}
+use Rattle.constraints.specs.SliceLists.{limits-length, limits-at, edges-length, edges-at, owners-length, owners-at}
 use Rattle.constraints.specs.Numbered.{Numbered}
-use Rattle.constraints.specs.Searched.{Labelled, HasLimits, InTable, OwnLabel, WorkRoom}
+use Rattle.constraints.specs.Arranged.{Labelled, labelsOf, linkOwners, SlicesIn}
 
 pub weights-small : {t : Table} {weights : List ℕ} → HasWeights t weights → WeightsSmall weights
 weights-small {t} {weights} h = record {
   small = λ p. ⊎-elim
-      (λ (l : p < t .«port_count»). h .small p (record { below = l }))
-      (λ (l : t .«port_count» ≤ p). omega (arith, h .rest p l))
-      (lt-or-le p (t .«port_count»));
+      (λ (l : p < portCount t). h .small p (record { below = l }))
+      (λ (l : portCount t ≤ p). omega (arith, h .rest p l))
+      (lt-or-le p (portCount t));
 }
 
 -- a port that is its own label names its component
-pub own-component : {t : Table} {labels weights limits links : List ℕ} {total c : ℕ} → InTable t labels weights total limits links → OwnLabel labels total c
-    → IsComponent t c
-own-component {t} {c = c} i own =
-    let port : IsPort t c = record { below = omega (arith, own .below, i .total-is) } in
-    record { a-port = port; lowest = rw (own .own) at (i .labelled .components .each c port) }
+pub own-component : {t : Table} {labels weights : List ℕ} {c : ℕ} → Labelled t labels weights → c < portCount t → getD labels c 0 ≡ c → IsComponent t c
+own-component {t} {c = c} l h own = let port : IsPort t c = record { below = h } in record { a-port = port; lowest = rw own at (l .components .each c port) }
 
 -- a part of a link or a port times a weight
 pub weighed-most : {x w : ℕ} → x ≤ 1000 → w ≤ mostWeight → x * w ≤ mostPart
 weighed-most h k = omega (arith, mul-le-mul h k)
 
-module _ (t : Table) (labels weights : List ℕ) (c : ℕ) where
-  abbrev ports : List ℕ
-  ports = portsIn labels c (t .«port_count»)
+-- a link whose owner is a label is a connection from a port of that label
+owned : (b : Bool) (none label c : ℕ) → c < none → ownerOf none label b ≡ c → (b ≡ false) × (label ≡ c)
+owned true none label c h e = absurd (omega (arith, e))
+owned false none label c h e = (refl, e)
 
-  abbrev connections : List ℕ
-  connections = connectionsIn t labels c (t .«link_count»)
+module _ {t : Table} {labels weights : List ℕ} (l : Labelled t labels weights) where
+  -- as many labels as ports, each port's own
+  pub labels-length : length (labelsOf t labels) ≡ portCount t
+  labels-length = simp length-take (omega (arith, l .components .long, l .well-formed .few-ports))
 
-  abbrev edges : List ℕ
-  edges = edgesOf t weights connections
+  pub label-at : (p : ℕ) → p < portCount t → getD (labelsOf t labels) p 0 ≡ getD labels p 0
+  label-at p h = getD-take (portCount t) labels p 0 h
 
-  -- as many edges as connections
-  pub edge-count : length edges / 6 ≡ length connections
-  edge-count = omega (arith, edges-length t weights connections)
+  from-port : {k : ℕ} → IsLink t k → IsPort t (from t k)
+  from-port {k} i = record { below = l .well-formed .links k (i .below) .from }
 
-  module _ (l : Labelled t labels weights) where
+  module _ {c : ℕ} {members limits numbers edges : List ℕ} (s : SlicesIn t labels weights c members limits numbers edges) where
     -- ---- the ports and connections of the component
-    port-of : {p : ℕ} → p ∈ ports → PortIn t c p
+    pub port-of : {p : ℕ} → p ∈ members → PortIn t c p
     port-of {p} m =
-        let port : IsPort t p = record { below = port-below labels c (t .«port_count») m } in
-        record { a-port = port; component = rw (port-label labels c (t .«port_count») m) at (l .components .each p port) }
-
-    of-port : {p : ℕ} → IsPort t p → InComponent t p c → p ∈ ports
-    of-port {p} port i = port-in labels c (port .below) (component-unique (l .components .each p port) i)
-
-    from-port : {k : ℕ} → IsLink t k → IsPort t (from t k)
-    from-port {k} i = record { below = l .well-formed .links k (i .below) .from }
-
-    connection-of : {k : ℕ} → k ∈ connections → ConnectionIn t c k
-    connection-of {k} m =
-        let i : IsLink t k = record { below = connection-below t labels c (t .«link_count») m } in
+        let i = rw (s .members-are) at m in
+        let port : IsPort t p = record { below = omega (arith, keyed-below (labelsOf t labels) c _ i, labels-length) } in
         record {
-          connection = record { a-link = i; events = connection-events t labels c (t .«link_count») m };
-          component = rw (connection-label t labels c (t .«link_count») m) at (l .components .each (from t k) (from-port i));
+          a-port = port;
+          component = rw (sym (label-at p (port .below)) ∙ keyed-key (labelsOf t labels) c _ i) at (l .components .each p port);
         }
 
-    of-connection : {k : ℕ} → ConnectionIn t c k → k ∈ connections
-    of-connection {k} i =
-        let a = i .connection .a-link in
-        connection-in t labels c (a .below) (i .connection .events) (component-unique (l .components .each (from t k) (from-port a)) (i .component))
+    pub of-port : {p : ℕ} → IsPort t p → InComponent t p c → p ∈ members
+    of-port {p} port i =
+        rw (s .members-are)
+        (keyed-in (labelsOf t labels) c _ (omega (arith, labels-length, port .below))
+        (label-at p (port .below) ∙ component-unique (l .components .each p port) i))
 
-    -- ---- the graph
-    module _ {limits numbers₀ numbers : List ℕ} {count : ℕ} (h : HasLimits t weights limits) (written : Written connections numbers₀ numbers count) where
-      limit-at : (p i : ℕ) → p < t .«port_count» → i < 2
-          → getD limits (2 * p + i) 0 ≡ getD (port t p .den ∷ port t p .num * getD weights p 0 ∷ []) i 0
+    module _ (component : IsComponent t c) where
+      low : c < portCount t
+      low = component .a-port .below
+
+      connection-of : {k : ℕ} → k ∈ numbers → ConnectionIn t c k
+      connection-of {k} m =
+          let i = rw (s .numbers-are) at m in
+          let below : k < linkCount t = omega (arith, keyed-below (linkOwners t labels) c _ i, owners-length t labels (linkCount t)) in
+          let a-link : IsLink t k = record { below = below } in
+          let (no-buffer, label) = owned (link t k .buffer) (portCount t) (getD labels (from t k) 0) c low
+          (sym (owners-at t labels (linkCount t) k below) ∙ keyed-key (linkOwners t labels) c _ i) in
+          record {
+            connection = record { a-link = a-link; events = no-buffer };
+            component = rw label at (l .components .each (from t k) (from-port a-link));
+          }
+
+      of-connection : {k : ℕ} → ConnectionIn t c k → k ∈ numbers
+      of-connection {k} i =
+          let link = i .connection .a-link in
+          let label = component-unique (l .components .each (from t k) (from-port link)) (i .component) in
+          rw (s .numbers-are)
+          (keyed-in (linkOwners t labels) c _ (omega (arith, owners-length t labels (linkCount t), link .below))
+          (owners-at t labels (linkCount t) k (link .below) ∙ ap (ownerOf (portCount t) (getD labels (from t k) 0)) (i .connection .events) ∙ label))
+
+      -- ---- the graph
+      limit-at : (p i : ℕ) → p < portCount t → i < 2 → getD limits (2 * p + i) 0 ≡ getD (port t p .den ∷ port t p .num * getD weights p 0 ∷ []) i 0
       limit-at p i m b =
-          let n = t .«port_count» in
-          rw (h .are)
-          (List·getD-append (limitsOf t weights n) (h .rest) 0 (2 * p + i) (omega (arith, limits-length t weights n)) ∙ limits-at t weights n p i m b)
+          let n = portCount t in
+          rw (s .has-limits .are)
+          (List·getD-append (limitsOf t weights n) (s .has-limits .rest) 0 (2 * p + i) (omega (arith, limits-length t weights n))
+          ∙ limits-at t weights n p i m b)
 
-      number-at : (i : ℕ) → i < length edges / 6 → getD numbers i 0 ≡ getD connections i 0
-      number-at i m = rw (written .contents) (List·getD-append connections (drop (length connections) numbers₀) 0 i (omega (arith, edge-count)))
+      -- as many edges as connections
+      pub edge-count : length edges / 6 ≡ length numbers
+      edge-count = rw (s .edges-are) (omega (arith, edges-length t weights numbers))
 
-      edge-in : (i : ℕ) → i < length edges / 6 → getD numbers i 0 ∈ connections
-      edge-in i m = rw (number-at i m) (member-at connections i (omega (arith, edge-count)))
+      edge-in : (i : ℕ) → i < length edges / 6 → getD numbers i 0 ∈ numbers
+      edge-in i m = member-at numbers i (omega (arith, edge-count))
 
       edge-at : (i j : ℕ) → i < length edges / 6 → j < 6 → getD edges (6 * i + j) 0 ≡ getD (edgeOf t weights (getD numbers i 0)) j 0
-      edge-at i j m b =
-          edges-at t weights connections i j (omega (arith, edge-count)) b ∙ ap (λ (k : ℕ). getD (edgeOf t weights k) j 0) (sym (number-at i m))
+      edge-at i j m b = rw (s .edges-are) (edges-at t weights numbers i j (omega (arith, edge-count)) b)
 
-      pub slices-numbered : Numbered (graphOf ports limits edges) (graphIn t (λ p. getD weights p 0) c) (λ i. getD numbers i 0)
+      pub slices-numbered : Numbered (graphOf members limits edges) (graphIn t (λ p. getD weights p 0) c) (λ i. getD numbers i 0)
       slices-numbered = record {
         port = λ p m. port-of m;
         port-back = λ p m. of-port (m .a-port) (m .component);
@@ -113,8 +127,7 @@ module _ (t : Table) (labels weights : List ℕ) (c : ℕ) where
         edge = λ i m. connection-of (edge-in i m);
         onto = λ k m.
             let (i, b, e) = position (of-connection m) in
-            let inside : i < length edges / 6 = omega (arith, edge-count) in
-            (i, inside, number-at i inside ∙ e);
+            (i, omega (arith, edge-count), e);
         from = λ i m. let e : 6 * i + 0 ≡ 6 * i = omega arith in rw e at (edge-at i 0 m (omega arith));
         to = λ i m. edge-at i 1 m (omega arith);
         ticks-forward = λ i m. edge-at i 2 m (omega arith);
@@ -124,7 +137,7 @@ module _ (t : Table) (labels weights : List ℕ) (c : ℕ) where
       }
 
       -- ---- what a search asks
-      edge-among : Among (graphOf ports limits edges) ports
+      edge-among : Among (graphOf members limits edges) members
       edge-among = record {
         from-in = λ i m.
             let k = slices-numbered .edge i m in
@@ -136,10 +149,10 @@ module _ (t : Table) (labels weights : List ℕ) (c : ℕ) where
             (of-port (record { below = l .well-formed .links (getD numbers i 0) (link .below) .to }) (joined-component (linked link) (k .component)));
       }
 
-      fits : (i : ℕ) → i < length edges / 6 → LinkFits (t .«port_count») (link t (getD numbers i 0))
+      fits : (i : ℕ) → i < length edges / 6 → LinkFits (portCount t) (link t (getD numbers i 0))
       fits i m = l .well-formed .links (getD numbers i 0) (slices-numbered .edge i m .connection .a-link .below)
 
-      small-edges : SmallEdges (graphOf ports limits edges)
+      small-edges : SmallEdges (graphOf members limits edges)
       small-edges =
           let small = weights-small (l .weighed) in
           record {
@@ -151,7 +164,7 @@ module _ (t : Table) (labels weights : List ℕ) (c : ℕ) where
                 rw (slices-numbered .events-back i m) (weighed-most (fits i m .events-back) (small .small (from t (getD numbers i 0))));
           }
 
-      small-limits : SmallLimits (graphOf ports limits edges)
+      small-limits : SmallLimits (graphOf members limits edges)
       small-limits = record {
         num-some = λ p m.
             let i = port-of m in
@@ -169,21 +182,13 @@ module _ (t : Table) (labels weights : List ℕ) (c : ℕ) where
             (weighed-most (l .well-formed .ports p (i .a-port .below) .num .most) (l .weighed .small p (i .a-port)));
       }
 
-      pub slices-component : IsComponent t c → Component ports limits edges
-      slices-component k = record {
-        some-port = let (i, b, e) = position (of-port (k .a-port) (k .lowest)) in omega arith;
-        few-ports = omega (arith, few-ports labels c (t .«port_count»), l .well-formed .few-ports);
-        low-ports = λ p m. omega (arith, port-below labels c (t .«port_count») m, l .well-formed .few-ports);
-        all-limits = h .long;
+      pub slices-component : Component members limits edges
+      slices-component = record {
+        some-port = let (i, b, e) = position (of-port (component .a-port) (component .lowest)) in omega arith;
+        few-ports = rw (s .members-are) (omega (arith, few-keyed (labelsOf t labels) c (length (labelsOf t labels)), labels-length, l .well-formed .few-ports));
+        low-ports = λ p m. omega (arith, port-of m .a-port .below, l .well-formed .few-ports);
+        all-limits = s .has-limits .long;
         among = edge-among;
         small-edges = small-edges;
         small-limits = small-limits;
       }
-
-  pub slices-room : {numbers work rows costs starts : List ℕ} → WorkRoom (t .«port_count») (t .«link_count») numbers work rows costs starts
-      → Room ports edges rows costs starts
-  slices-room r = record {
-    rows-room = omega (arith, few-ports labels c (t .«port_count»), r .of-rows);
-    costs-room = omega (arith, edge-count, few-connections t labels c (t .«link_count»), r .of-costs);
-    starts-room = r .of-starts;
-  }

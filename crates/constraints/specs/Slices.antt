@@ -1,25 +1,12 @@
--- The ports, limits, connections and edges of a component, as lists of numbers. Assumes nothing.
-use Prim.Native.Nat.{ℕ, zero, suc, _+_, _*_, _/_, _≤_}
+-- The limits of a table's ports, the owners of its links, and the edges of connections, as lists of numbers. Assumes nothing.
+use Prim.Native.Nat.{ℕ, zero, suc, _+_, _*_, _≤_, _<_}
 use mathlib.Core.Bool.{Bool, cond}
 use mathlib.Core.List.{List, [], _∷_, _++_}
-use lib.Dec.{eqb}
 use lib.ListN.{length, getD}
-use Rattle.table.specs.Limits.{port, link}
-use Rattle.table.specs.declared.Table.{Table}
+use Rattle.table.specs.Table.{Table, portCount, linkCount, port, link}
 use Rattle.ways.specs.Model.{from, to}
 use Rattle.weights.specs.Weighed.{mostWeight}
 use Rattle.answers.specs.Constraints.{ε⁺, ε⁻, δ⁺, δ⁻}
-
--- the ports below n whose label is c
-unfoldable pub portsIn : List ℕ → ℕ → ℕ → List ℕ
-portsIn labels c zero = []
-portsIn labels c (suc n) = portsIn labels c n ++ cond (eqb (getD labels n 0) c) (n ∷ []) []
-
--- the connections below n whose sender's label is c
-unfoldable pub connectionsIn : Table → List ℕ → ℕ → ℕ → List ℕ
-connectionsIn t labels c zero = []
-connectionsIn t labels c (suc n) =
-    connectionsIn t labels c n ++ cond (link t n .buffer) [] (cond (eqb (getD labels (from t n) 0) c) (n ∷ []) [])
 
 module _ (t : Table) (weights : List ℕ) where
   -- the parts of the rate limits of the ports below n
@@ -42,46 +29,18 @@ module _ (t : Table) (weights : List ℕ) where
   edgesOf [] = []
   edgesOf (k ∷ ks) = edgeOf k ++ edgesOf ks
 
--- ---- every link of a table, as one list
--- the label of a connection's sender; 64, which is no label, for a buffer
-abbrev pub ownerOf : ℕ → Bool → ℕ
-ownerOf label buffer = cond buffer 64 label
+-- the label of a connection's sender; a buffer has a number that is no label
+abbrev pub ownerOf : (none label : ℕ) → Bool → ℕ
+ownerOf none label buffer = cond buffer none label
 
--- the owner, from, to, E and D of the links below n
-unfoldable pub linksOf : Table → List ℕ → List ℕ → ℕ → List ℕ
-linksOf t labels weights zero = []
-linksOf t labels weights (suc n) =
-    linksOf t labels weights n ++ (ownerOf (getD labels (from t n) 0) (link t n .buffer) ∷ edgeOf t weights n)
+-- the owners of the links below n; the number of ports is no label
+unfoldable pub ownersOf : Table → List ℕ → ℕ → List ℕ
+ownersOf t labels zero = []
+ownersOf t labels (suc n) = ownersOf t labels n ++ (ownerOf (portCount t) (getD labels (from t n) 0) (link t n .buffer) ∷ [])
 
--- ---- what such a list says of component c
-abbrev pub linkCount : List ℕ → ℕ
-linkCount links = length links / 7
-
--- the links below n whose owner is c
-unfoldable pub numbersIn : List ℕ → ℕ → ℕ → List ℕ
-numbersIn links c zero = []
-numbersIn links c (suc n) = numbersIn links c n ++ cond (eqb (getD links (7 * n) 0) c) (n ∷ []) []
-
--- from, to, E and D of link k
-abbrev pub edgeAt : List ℕ → ℕ → List ℕ
-edgeAt links k =
-    getD links (7 * k + 1) 0
-    ∷ getD links (7 * k + 2) 0
-    ∷ getD links (7 * k + 3) 0
-    ∷ getD links (7 * k + 4) 0
-    ∷ getD links (7 * k + 5) 0
-    ∷ getD links (7 * k + 6) 0
-    ∷ []
-
--- those of the links below n whose owner is c
-unfoldable pub edgesIn : List ℕ → ℕ → ℕ → List ℕ
-edgesIn links c zero = []
-edgesIn links c (suc n) = edgesIn links c n ++ cond (eqb (getD links (7 * n) 0) c) (edgeAt links n) []
-
--- room for the numbers and the edges of every link
-pub record ConnectionRoom (links numbers edges : List ℕ) : Type 0 where
-  pub of-numbers : linkCount links ≤ length numbers
-  pub of-edges : 6 * linkCount links ≤ length edges
+-- every number is one of a link
+pub record LinkNumbers (t : Table) (numbers : List ℕ) : Type 0 where
+  pub below : (i : ℕ) → i < length numbers → getD numbers i 0 < linkCount t
 
 -- no weight is large
 pub record WeightsSmall (weights : List ℕ) : Type 0 where

@@ -1,3 +1,2 @@
-// The constraint graph of a component: its slices of numbers, and the search for its least period in the table's own terms.
-pub mod component;
+// The constraint graphs of a table's components, as slices of numbers.
 pub mod slices;

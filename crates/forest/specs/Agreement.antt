@@ -6,7 +6,7 @@ use mathlib.Core.Bool.{Bool, true, false}
 use mathlib.Core.List.{List}
 use lib.ListN.{getD}
 use Rattle.table.specs.declared.Link.{Link}
-use Rattle.table.specs.declared.Table.{Table}
+use Rattle.table.specs.Table.{Table, linkCount}
 use Rattle.forest.specs.declared.agreement.Over.{Over}
 use Rattle.forest.specs.PortRows.{valueOf, Fits}
 
@@ -31,6 +31,6 @@ pub record KnownToFit (m : Link) (rows : List (List ℕ)) (known : Bool) : Type 
 
 -- the rows fit every link below r, and link r, if there is one, not
 pub record FirstConflict (t : Table) (rows : List (List ℕ)) (r : ℕ) : Type 0 where
-  pub within : r ≤ t .«link_count»
+  pub within : r ≤ linkCount t
   pub before : (k : ℕ) → k < r → Fits t rows k
-  pub conflict : r < t .«link_count» → ¬ Fits t rows r
+  pub conflict : r < linkCount t → ¬ Fits t rows r

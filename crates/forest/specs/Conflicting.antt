@@ -7,7 +7,7 @@ use native.Mathlib.Nat.{eq-of-mul-eq-mul-right}
 use native.Mathlib.Omega.{arith}
 use Rattle.rounds.specs.Lists.{_∈_}
 use Rattle.table.specs.Limits.{WellFormed}
-use Rattle.table.specs.declared.Table.{Table}
+use Rattle.table.specs.Table.{Table}
 use Rattle.ways.specs.Model.{from, to, num, den}
 use Rattle.ways.specs.Ways.{Step, Way, walk, above, below}
 use Rattle.ways.specs.WayLaws.{above-positive}

@@ -7,7 +7,7 @@ use mathlib.Core.List.{List, [], _∷_, map}
 use lib.ListN.{length, getD}
 use lib.Dec.{eqb}
 use Rattle.table.specs.Limits.{WellFormed}
-use Rattle.table.specs.declared.Table.{Table}
+use Rattle.table.specs.Table.{Table}
 use Rattle.rounds.specs.Lists.{_∈_, Distinct}
 use Rattle.ways.specs.Model.{IsPort, IsLink, from}
 use Rattle.ways.specs.Ways.{Step, Way, comes}

@@ -8,7 +8,7 @@ use Rattle.exponents.specs.Primes.{primeAt}
 use Rattle.exponents.specs.Row.{rowValue}
 use Rattle.rounds.specs.Lists.{sum}
 use Rattle.table.specs.Limits.{PartFits}
-use Rattle.table.specs.declared.Table.{Table}
+use Rattle.table.specs.Table.{Table, linkCount}
 use Rattle.ways.specs.Model.{IsPort, IsLink, from, to}
 use Rattle.ways.specs.Ways.{Component}
 use Rattle.forest.specs.Forest.{Ends}
@@ -78,7 +78,7 @@ module _ (t : Table) where
 
   -- the links below n make f′ and rows of the forest f; where none reached a port, none can
   pub record Passed (n : ℕ) (f f′ : Forest) (rows : List (List ℕ)) : Type 0 where
-    pub within : n ≤ t .«link_count»
+    pub within : n ≤ linkCount t
     pub spreading : Spreading f′ rows
     pub grown : f .count ≤ f′ .count
     pub closed : f′ .count ≡ f .count → Closed n f′

@@ -1,6 +1,7 @@
 // Whether rows of exponents fit the ratios of the links.
 ghost use Rattle.exponents.specs.Factor.{Lent};
 ghost use Rattle.table.specs.Limits.{WellFormed, LinkFits};
+ghost use Rattle.table.specs.Slices.{tableOf};
 ghost use Prim.Native.Nat.{_<_};
 ghost use mathlib.Core.Path.{_≡_};
 ghost use mathlib.Core.Logic.{_⊎_};
@@ -8,7 +9,7 @@ ghost use Rattle.forest.specs.PortRows.{PortRows, OverForest};
 ghost use Rattle.forest.specs.Agreement.{FitsRows, IsOver, Parallel, KnownToFit, FirstConflict};
 use exponents::row;
 use table::Link;
-use table::Table;
+use table::links;
 
 // The link over which a port was reached, if one was.
 pub struct Over {
@@ -23,12 +24,12 @@ fn fits(l: Link, rows: &[[u16; 168]; 64], divisors: &[u16], places: &[u16]) -> b
     requires { ⌜ Lent (now divisors) (now places) ⌝ }
     ensures { λ r. ⌜ FitsRows l (now (rows .entry)) r ⌝ }
 {
-    let from = l.from as usize;
-    let to = l.to as usize;
+    let from = l.from;
+    let to = l.to;
     if l.num == l.den {
         return row::same_rows(rows, to, from);
     }
-    let row = row::scaled(rows[to], l.num as u64, l.den as u64, divisors, places);
+    let row = row::scaled(rows[to], l.num, l.den, divisors, places);
     row::same(row, rows[from])
 }
 
@@ -63,16 +64,16 @@ fn parallel(l: Link, m: Link) -> bool
     requires { ⌜ LinkFits 64 m ⌝ }
     ensures { λ r. ⌜ Parallel l m r ⌝ }
 {
-    let num = l.num as u64;
-    let den = l.den as u64;
+    let num = l.num;
+    let den = l.den;
     if l.from == m.from {
         if l.to == m.to {
-            return num * m.den as u64 == den * m.num as u64;
+            return num * m.den == den * m.num;
         }
     }
     if l.from == m.to {
         if l.to == m.from {
-            return num * m.num as u64 == den * m.den as u64;
+            return num * m.num == den * m.den;
         }
     }
     false
@@ -105,7 +106,8 @@ fn agrees(
 // The first link that the rows do not fit, or the number of links. One that is parallel to the forest's link between its ends, as that
 // link itself is, is not compared.
 pub fn conflict(
-    t: Table,
+    ports: &[u32],
+    links: &[u32],
     labels: &[usize; 64],
     reach: &[usize; 64],
     via: &[usize; 64],
@@ -113,19 +115,19 @@ pub fn conflict(
     divisors: &[u16],
     places: &[u16],
 ) -> usize
-    requires { ⌜ WellFormed t ⌝ }
+    requires { ⌜ WellFormed (tableOf (now ports) (now links)) ⌝ }
     requires { ⌜ PortRows (now rows) ⌝ }
-    requires { ⌜ OverForest t (now labels) (now via) (now rows) ⌝ }
+    requires { ⌜ OverForest (tableOf (now ports) (now links)) (now labels) (now via) (now rows) ⌝ }
     requires { ⌜ Lent (now divisors) (now places) ⌝ }
-    ensures { λ r. ⌜ FirstConflict t (now (rows .entry)) r ⌝ }
+    ensures { λ r. ⌜ FirstConflict (tableOf (now (ports .entry)) (now (links .entry))) (now (rows .entry)) r ⌝ }
 {
+    let count = links::count(links);
     let mut k: usize = 0;
-    while k < t.link_count {
-        let l = t.links[k];
-        let at = later(reach, l.from as usize, l.to as usize);
+    while k < count {
+        let l = links::at(links, k);
+        let at = later(reach, l.from, l.to);
         let tree = tree_link(labels, via, at, k);
-        let over = tree.link;
-        let m = t.links[over];
+        let m = links::at(links, tree.link);
         if !agrees(l, tree.reached, m, rows, divisors, places) {
             return k;
         }

@@ -1,8 +1,9 @@
 // The loop that a link closes in the forest.
+ghost use Rattle.table.specs.Slices.{tableOf};
 ghost use Rattle.forest.specs.Loop.{Closing, Closed};
 ghost use Rattle.forest.specs.StepNumbers.{StepRoom, Put, CopyRoom, Copied};
 ghost use Rattle.forest.specs.Climb.{Climbable, Parent, DownRoom, Met};
-use table::Table;
+use table::links;
 
 // The step from a port to its parent.
 struct Up {
@@ -18,13 +19,20 @@ struct Places {
 }
 
 // From port p over the link over which it was reached.
-fn parent(t: Table, labels: [usize; 64], reach: [usize; 64], via: [usize; 64], p: usize) -> Up
-    requires { ⌜ Climbable t labels reach via p ⌝ }
-    ensures { λ r. ⌜ Parent t labels reach via p (r .link) (r .against) (r .parent) ⌝ }
+fn parent(
+    ports: &[u32],
+    links: &[u32],
+    labels: &[usize; 64],
+    reach: &[usize; 64],
+    via: &[usize; 64],
+    p: usize,
+) -> Up
+    requires { ⌜ Climbable (tableOf (now ports) (now links)) (now labels) (now reach) (now via) p ⌝ }
+    ensures { λ r. ⌜ Parent (tableOf (now (ports .entry)) (now (links .entry))) (now (labels .entry)) (now (reach .entry)) (now (via .entry)) p (r .link) (r .against) (r .parent) ⌝ }
 {
     let link = via[p];
-    let from = t.links[link].from as usize;
-    let to = t.links[link].to as usize;
+    let from = links::from(links, link);
+    let to = links::to(links, link);
     if from == p {
         Up {
             link: link,
@@ -52,31 +60,32 @@ fn put(numbers: &mut [u64], at: usize, link: usize, against: u64)
 // From both ends of k the climb goes over the forest, always from the end that was reached later, until both are one port.
 // The steps up stand in numbers behind k; the steps down to the sender are filled from the end.
 fn climb(
-    t: Table,
-    labels: [usize; 64],
-    reach: [usize; 64],
-    via: [usize; 64],
+    ports: &[u32],
+    links: &[u32],
+    labels: &[usize; 64],
+    reach: &[usize; 64],
+    via: &[usize; 64],
     k: usize,
     numbers: &mut [u64],
     down: &mut [u64],
 ) -> Places
-    requires { ⌜ Closing t labels reach via k (now numbers) ⌝ }
+    requires { ⌜ Closing (tableOf (now ports) (now links)) (now labels) (now reach) (now via) k (now numbers) ⌝ }
     requires { ⌜ DownRoom (now down) ⌝ }
-    ensures { λ r. ⌜ Met t labels reach via k (now (numbers .exit)) (now (down .exit)) (r .next) (r .first) ⌝ }
+    ensures { λ r. ⌜ Met (tableOf (now (ports .entry)) (now (links .entry))) (now (labels .entry)) (now (reach .entry)) (now (via .entry)) k (now (numbers .exit)) (now (down .exit)) (r .next) (r .first) ⌝ }
 {
     put(numbers, 0, k, 0);
     let mut next: usize = 2;
     let mut first: usize = 128;
-    let mut a = t.links[k].to as usize;
-    let mut b = t.links[k].from as usize;
+    let mut a = links::to(links, k);
+    let mut b = links::from(links, k);
     while a != b {
         if reach[b] < reach[a] {
-            let up = parent(t, labels, reach, via, a);
+            let up = parent(ports, links, labels, reach, via, a);
             put(numbers, next, up.link, up.against);
             next = next + 2;
             a = up.parent;
         } else {
-            let up = parent(t, labels, reach, via, b);
+            let up = parent(ports, links, labels, reach, via, b);
             first = first - 2;
             put(down, first, up.link, 1 - up.against);
             b = up.parent;
@@ -89,9 +98,9 @@ fn climb(
 }
 
 // Copies the numbers from first on to the place next. Answers the place behind them.
-fn append(numbers: &mut [u64], next: usize, down: [u64; 128], first: usize) -> usize
+fn append(numbers: &mut [u64], next: usize, down: &[u64; 128], first: usize) -> usize
     requires { ⌜ CopyRoom (now numbers) next first ⌝ }
-    ensures { λ r. ⌜ Copied down (now (numbers .entry)) (now (numbers .exit)) first next 128 r ⌝ }
+    ensures { λ r. ⌜ Copied (now (down .entry)) (now (numbers .entry)) (now (numbers .exit)) first next 128 r ⌝ }
 {
     let mut from = first;
     let mut to = next;
@@ -105,17 +114,18 @@ fn append(numbers: &mut [u64], next: usize, down: [u64; 128], first: usize) -> u
 
 // Writes the loop of link k: k itself from its sender to its receiver, then over the forest back to the sender. Answers its steps.
 pub fn close(
-    t: Table,
-    labels: [usize; 64],
-    reach: [usize; 64],
-    via: [usize; 64],
+    ports: &[u32],
+    links: &[u32],
+    labels: &[usize; 64],
+    reach: &[usize; 64],
+    via: &[usize; 64],
     k: usize,
     numbers: &mut [u64],
 ) -> usize
-    requires { ⌜ Closing t labels reach via k (now numbers) ⌝ }
-    ensures { λ n. ⌜ Closed t labels via k (now (numbers .exit)) n ⌝ }
+    requires { ⌜ Closing (tableOf (now ports) (now links)) (now labels) (now reach) (now via) k (now numbers) ⌝ }
+    ensures { λ n. ⌜ Closed (tableOf (now (ports .entry)) (now (links .entry))) (now (labels .entry)) (now (via .entry)) k (now (numbers .exit)) n ⌝ }
 {
     let mut down = [0u64; 128];
-    let places = climb(t, labels, reach, via, k, numbers, &mut down);
-    append(numbers, places.next, down, places.first) / 2
+    let places = climb(ports, links, labels, reach, via, k, numbers, &mut down);
+    append(numbers, places.next, &down, places.first) / 2
 }

@@ -2,20 +2,23 @@
 ghost use mathlib.Core.Path.{_≡_};
 ghost use Prim.Native.Nat.{max};
 ghost use Rattle.table.specs.Limits.{WellFormed};
+ghost use Rattle.table.specs.Slices.{tableOf};
 ghost use Rattle.forest.specs.PortRows.{MostPart};
-use table::Table;
+use table::links;
 
 // No part of a ratio is greater, ratios of 1 aside; 0 where every ratio is 1.
-pub fn most_part(t: Table) -> u64
-    requires { ⌜ WellFormed t ⌝ }
-    ensures { λ r. ⌜ MostPart t r ⌝ }
+pub fn most_part(ports: &[u32], links: &[u32]) -> u64
+    requires { ⌜ WellFormed (tableOf (now ports) (now links)) ⌝ }
+    ensures { λ r. ⌜ MostPart (tableOf (now (ports .entry)) (now (links .entry))) r ⌝ }
 {
+    let count = links::count(links);
     let mut most: u64 = 0;
     let mut k: usize = 0;
-    while k < t.link_count {
-        let l = t.links[k];
-        if l.num != l.den {
-            most = larger(most, larger(l.num as u64, l.den as u64));
+    while k < count {
+        let num = links::num(links, k);
+        let den = links::den(links, k);
+        if num != den {
+            most = larger(most, larger(num, den));
         }
         k = k + 1;
     }

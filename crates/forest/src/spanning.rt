@@ -1,13 +1,15 @@
 // A spanning forest over the links of a table, with a row of prime exponents for each port.
 ghost use Rattle.table.specs.Limits.{WellFormed};
+ghost use Rattle.table.specs.Slices.{linksOf, tableOf};
 ghost use Rattle.ways.specs.Labels.{Components};
 ghost use mathlib.Core.Path.{_≡_};
-ghost use lib.ListN.{replicate};
+ghost use lib.ListN.{length, replicate};
 ghost use Rattle.forest.specs.PortRows.{zeroRow, Spanned};
 ghost use Rattle.forest.specs.Spreading.{forestOf, Unreached, Rootable, Rooted, Spreading, Spreadable, RowMade, Followable, Followed, Passed};
 ghost use Rattle.exponents.specs.Factor.{Lent};
 use exponents::row;
-use table::Table;
+use table::links;
+use table::ports;
 
 // The order in which the ports were reached, from 1 on (0: not yet), the link over which each was, and how many are reached.
 pub struct Forest {
@@ -20,24 +22,34 @@ pub struct Forest {
 // At first each row is that of exponent zero.
 // The last two slices are the tables that factors are looked up in.
 pub fn spanned(
-    t: Table,
-    labels: [usize; 64],
+    ports: &[u32],
+    links: &[u32],
+    labels: &[usize; 64],
     rows: &mut [[u16; 168]; 64],
     divisors: &[u16],
     places: &[u16],
 ) -> Forest
-    requires { ⌜ WellFormed t ⌝ }
-    requires { ⌜ Components t labels ⌝ }
+    requires { ⌜ WellFormed (tableOf (now ports) (now links)) ⌝ }
+    requires { ⌜ Components (tableOf (now ports) (now links)) (now labels) ⌝ }
     requires { ⌜ now rows ≡ replicate 64 zeroRow ⌝ }
     requires { ⌜ Lent (now divisors) (now places) ⌝ }
-    ensures { λ r. ⌜ Spanned t labels (r .reach) (r .via) (now (rows .exit)) ⌝ }
+    ensures { λ r. ⌜ Spanned (tableOf (now (ports .entry)) (now (links .entry))) (now (labels .entry)) (r .reach) (r .via) (now (rows .exit)) ⌝ }
 {
     let mut reach = [0usize; 64];
     let mut via = [0usize; 64];
-    let mut count = roots(t.port_count, labels, &mut reach, &mut via);
+    let mut count = roots(ports::count(ports), labels, &mut reach, &mut via);
     loop {
         let before = count;
-        count = pass(t, before, &mut reach, &mut via, rows, divisors, places);
+        count = pass(
+            ports,
+            links,
+            before,
+            &mut reach,
+            &mut via,
+            rows,
+            divisors,
+            places,
+        );
         if count == before {
             return Forest { reach, via, count };
         }
@@ -45,10 +57,15 @@ pub fn spanned(
 }
 
 // The lowest port of each component, reached over no link. Answers how many these are.
-fn roots(ports: usize, labels: [usize; 64], reach: &mut [usize; 64], via: &mut [usize; 64]) -> usize
+fn roots(
+    ports: usize,
+    labels: &[usize; 64],
+    reach: &mut [usize; 64],
+    via: &mut [usize; 64],
+) -> usize
     requires { ⌜ Rootable ports ⌝ }
     requires { ⌜ Unreached (now reach) (now via) ⌝ }
-    ensures { λ r. ⌜ Rooted ports labels (forestOf (now (reach .exit)) (now (via .exit)) r) ⌝ }
+    ensures { λ r. ⌜ Rooted ports (now (labels .entry)) (forestOf (now (reach .exit)) (now (via .exit)) r) ⌝ }
 {
     let mut count: usize = 0;
     let mut p: usize = 0;
@@ -65,7 +82,8 @@ fn roots(ports: usize, labels: [usize; 64], reach: &mut [usize; 64], via: &mut [
 
 // One pass over the links: each with one end reached reaches the other. Before it so many ports are reached; answers how many are then.
 fn pass(
-    t: Table,
+    ports: &[u32],
+    links: &[u32],
     before: usize,
     reach: &mut [usize; 64],
     via: &mut [usize; 64],
@@ -73,19 +91,19 @@ fn pass(
     divisors: &[u16],
     places: &[u16],
 ) -> usize
-    requires { ⌜ WellFormed t ⌝ }
-    requires { ⌜ Spreading t (forestOf (now reach) (now via) before) (now rows) ⌝ }
+    requires { ⌜ WellFormed (tableOf (now ports) (now links)) ⌝ }
+    requires { ⌜ Spreading (tableOf (now ports) (now links)) (forestOf (now reach) (now via) before) (now rows) ⌝ }
     requires { ⌜ Lent (now divisors) (now places) ⌝ }
-    ensures { λ r. ⌜ Passed t (t .«link_count») (forestOf (now (reach .entry)) (now (via .entry)) before) (forestOf (now (reach .exit)) (now (via .exit)) r) (now (rows .exit)) ⌝ }
+    ensures { λ r. ⌜ Passed (tableOf (now (ports .entry)) (now (links .entry))) (length (linksOf (now (links .entry)))) (forestOf (now (reach .entry)) (now (via .entry)) before) (forestOf (now (reach .exit)) (now (via .exit)) r) (now (rows .exit)) ⌝ }
 {
+    let last = links::count(links);
     let mut count = before;
     let mut k: usize = 0;
-    while k < t.link_count {
-        let l = t.links[k];
-        let from = l.from as usize;
-        let to = l.to as usize;
-        let num = l.num as u64;
-        let den = l.den as u64;
+    while k < last {
+        let from = links::from(links, k);
+        let to = links::to(links, k);
+        let num = links::num(links, k);
+        let den = links::den(links, k);
         count = follow(
             count,
             reach,

@@ -77,6 +77,9 @@ gcd-zero a = gcd-unique (gcd-is a 0) (gcd-base a)
 pub gcd-rest : (a b : ℕ) → gcd a b ≡ gcd b (a % b)
 gcd-rest a b = gcd-unique (gcd-is a b) (gcd-step (gcd-is b (a % b)))
 
+pub gcd-one : (a : ℕ) → gcd a 1 ≡ 1
+gcd-one a = divides-one (gcd-is a 1 .right)
+
 -- no common divisor but 1
 pub record Coprime (a b : ℕ) : Type 0 where
   pub only : (d : ℕ) → Divides d a → Divides d b → d ≡ 1

@@ -1,9 +1,9 @@
 -- The fraction in lowest terms that equals num / den, and the order of fractions. Assumes nothing.
-use Prim.Native.Nat.{ℕ, _*_, _/_, _≤_, _<_}
+use Prim.Native.Nat.{ℕ, _*_, _/_, _^_, _≤_, _<_}
 use mathlib.Core.Path.{_≡_, sym, ap}
 use mathlib.Core.Bool.{Bool, true}
 use mathlib.Core.Logic.{_↔_}
-use native.Mathlib.Nat.{eq-of-mul-eq-mul-left, div-le-self, pos-of-ne-zero, mul-pos}
+use native.Mathlib.Nat.{eq-of-mul-eq-mul-left, div-le-self, div-one, pos-of-ne-zero, mul-pos, mul-le-mul}
 use native.Mathlib.Omega.{arith}
 use lib.Dec.{ltb}
 use borrow.Author.Tests.{ltb-true, lt-ltb}
@@ -15,6 +15,11 @@ use Rattle.fraction.specs.Rational.{Rational, _≈_, _≺_, _·_, share}
 -- num / den, with both parts divided by their greatest common divisor
 unfoldable pub lowestTerms : ℕ → ℕ → Fraction
 lowestTerms num den = record { num = num / gcd num den; den = den / gcd num den }
+
+-- parts without a common divisor stay as they are
+pub lowest-already : {num den : ℕ} → gcd num den ≡ 1 → record { num = num; den = den } ≡ lowestTerms num den
+unfolding lowestTerms
+lowest-already {num} {den} e = rw (e, div-one num, div-one den)
 
 -- f is the fraction in lowest terms that equals num / den
 pub record IsLowest (num den : ℕ) (f : Fraction) : Type 0 where
@@ -66,6 +71,14 @@ pub lowest-above-zero : {num den : ℕ} → 0 < num → 0 < den → 0 < lowestTe
 lowest-above-zero {num} {den} p q =
     let h = lowest-is num den q in
     pos-of-ne-zero (λ e. omega (arith, h .equal, mul-pos p (h .over), ap (λ (n : ℕ). n * den) e))
+
+-- parts whose products fit 64 bits
+pub record Narrow (f : Fraction) : Type 0 where
+  pub num : f .num < 2 ^ 32
+  pub den : f .den < 2 ^ 32
+
+pub narrow-product : {x y : ℕ} → x < 2 ^ 32 → y < 2 ^ 32 → x * y < 2 ^ 64
+narrow-product {x} {y} h k = omega (arith, mul-le-mul {n₁ = x} {m₁ = y} {n₂ = 4294967295} {m₂ = 4294967295} (omega arith) (omega arith))
 
 -- less exactly when the products say so
 unfoldable pub lessThan : Fraction → Fraction → Bool

@@ -5,7 +5,7 @@ use mathlib.Core.List.{List}
 use lib.ListN.{length}
 use Rattle.records.specs.Answer.{Written}
 use Rattle.table.specs.Reading.{readTable}
-use Rattle.table.specs.declared.Table.{Table}
+use Rattle.table.specs.Table.{Table}
 use Rattle.ways.specs.Model.{IsPort}
 use Rattle.answers.specs.Constraints.{IsBuffer}
 use Rattle.answers.specs.Answers.{Timing, Answer, refused, disagreeing, overweight, blocked, consistent, number, records, Right, AnswerOf}

@@ -1,29 +1,40 @@
 -- The periods and starts of a table's components, and what all components come to. Assumes nothing.
 use Prim.Native.Nat.{ℕ, _+_, _*_, _≤_, _<_}
 use mathlib.Core.Path.{_≡_}
-use mathlib.Core.Logic.{_≢_}
 use mathlib.Core.List.{List, _++_}
 use lib.ListN.{length, getD}
 use Rattle.fraction.specs.declared.Fraction.{Fraction}
 use Rattle.records.specs.Answer.{Written, cycleAnswer}
+use Rattle.rounds.specs.Lists.{_∈_}
 use Rattle.rounds.specs.Graph.{LeastStarts}
-use Rattle.table.specs.declared.Table.{Table}
+use Rattle.table.specs.Table.{Table, portCount}
 use Rattle.period.specs.Periods.{Period}
 use Rattle.period.specs.Search.{SmallPeriod, mostStart}
+use Rattle.order.specs.Order.{Sorted}
 use Rattle.answers.specs.Constraints.{PortIn, graphIn}
 use Rattle.answers.specs.Answers.{Floor, floorRecord, IsComponent, NoPeriod}
-use Rattle.constraints.specs.Searched.{InTable}
+use Rattle.constraints.specs.Arranged.{labelsOf}
 use Rattle.timings.specs.Timings.{aAt, bAt, startAt}
 
--- the ports below n of component c hold this period and these starts; nothing else changed
-pub record Kept (labels : List ℕ) (n c : ℕ) (period : Fraction) (starts timing timing′ : List ℕ) : Type 0 where
+-- the numbers of ports
+pub record LowPorts (members : List ℕ) : Type 0 where
+  pub low : (p : ℕ) → p ∈ members → p < 64
+
+-- these ports start at 0; nothing else changed
+pub record Zeroed (members starts starts′ : List ℕ) : Type 0 where
+  pub same-length : length starts′ ≡ length starts
+  pub zero : (p : ℕ) → p ∈ members → getD starts′ p 0 ≡ 0
+  pub other : (p : ℕ) → ¬ (p ∈ members) → getD starts′ p 0 ≡ getD starts p 0
+
+-- these ports hold this period and these starts; nothing else changed
+pub record Kept (members : List ℕ) (period : Fraction) (starts timing timing′ : List ℕ) : Type 0 where
   pub same-length : length timing′ ≡ length timing
-  pub kept-a : (p : ℕ) → p < n → getD labels p 0 ≡ c → aAt timing′ p ≡ period .num
-  pub kept-b : (p : ℕ) → p < n → getD labels p 0 ≡ c → bAt timing′ p ≡ period .den
-  pub kept-start : (p : ℕ) → p < n → getD labels p 0 ≡ c → startAt timing′ p ≡ getD starts p 0
-  pub other-a : (p : ℕ) → getD labels p 0 ≢ c → aAt timing′ p ≡ aAt timing p
-  pub other-b : (p : ℕ) → getD labels p 0 ≢ c → bAt timing′ p ≡ bAt timing p
-  pub other-start : (p : ℕ) → getD labels p 0 ≢ c → startAt timing′ p ≡ startAt timing p
+  pub kept-a : (p : ℕ) → p ∈ members → aAt timing′ p ≡ period .num
+  pub kept-b : (p : ℕ) → p ∈ members → bAt timing′ p ≡ period .den
+  pub kept-start : (p : ℕ) → p ∈ members → startAt timing′ p ≡ getD starts p 0
+  pub other-a : (p : ℕ) → ¬ (p ∈ members) → aAt timing′ p ≡ aAt timing p
+  pub other-b : (p : ℕ) → ¬ (p ∈ members) → bAt timing′ p ≡ bAt timing p
+  pub other-start : (p : ℕ) → ¬ (p ∈ members) → startAt timing′ p ≡ startAt timing p
 
 module _ (t : Table) (weights timing : List ℕ) where
   -- the ports of component c hold its period and its least starts
@@ -55,20 +66,26 @@ pub record TimedOrShown (t : Table) (weights timing before after : List ℕ) (n 
   pub unchanged : r ≡ 0 → after ≡ before
   pub blocked : 0 < r → Shown t before after r
 
--- ---- of every table that these are the labels, limits and links of
-module _ (labels : List ℕ) (total : ℕ) (limits links : List ℕ) where
-  -- where the components below c are timed, component c is, or is shown
-  pub record OneTimed (c : ℕ) (timing timing′ before after : List ℕ) (r : ℕ) : Type 0 where
-    pub of : (t : Table) (weights : List ℕ) → InTable t labels weights total limits links → TimedBelow t weights timing c
-        → TimedOrShown t weights timing′ before after (c + 1) r
+-- where the components below c are timed, component c is, or is shown
+pub record OneTimed (t : Table) (weights : List ℕ) (c : ℕ) (timing timing′ before after : List ℕ) (r : ℕ) : Type 0 where
+  pub of : TimedBelow t weights timing c → TimedOrShown t weights timing′ before after (c + 1) r
 
-  pub record AllTimed (timing before after : List ℕ) (r : ℕ) : Type 0 where
-    pub of : (t : Table) (weights : List ℕ) → InTable t labels weights total limits links → TimedOrShown t weights timing before after total r
+-- room for the rows, prices and starts of a component of so many ports and links
+pub record WorkRoom (ports links : ℕ) (rows costs starts : List ℕ) : Type 0 where
+  pub of-rows : 64 * ports + 64 ≤ length rows
+  pub of-costs : 4 * links ≤ length costs
+  pub of-starts : length starts ≡ 64
 
--- room for the links of a table, and for the work on its components
-pub record TableRoom (t : Table) (links numbers edges rows costs : List ℕ) : Type 0 where
-  pub of-links : 7 * t .«link_count» ≤ length links
-  pub of-numbers : t .«link_count» ≤ length numbers
-  pub of-edges : 6 * t .«link_count» ≤ length edges
-  pub of-rows : 64 * t .«port_count» + 64 ≤ length rows
-  pub of-costs : 4 * t .«link_count» ≤ length costs
+-- the ports in the order of their labels
+pub record MembersSorted (t : Table) (labels member-ends members : List ℕ) : Type 0 where
+  pub members₀ : List ℕ
+  pub most : ℕ
+  pub sorted : Sorted (labelsOf t labels) (portCount t) member-ends members₀ members most
+
+-- room for the owners, connections, edges and prices of so many links, and for the rows of a component of so many ports
+pub record TableRoom (ports links : ℕ) (owners numbers edges rows costs : List ℕ) : Type 0 where
+  pub of-owners : links ≤ length owners
+  pub of-numbers : links ≤ length numbers
+  pub of-edges : 6 * links ≤ length edges
+  pub of-rows : 64 * ports + 64 ≤ length rows
+  pub of-costs : 4 * links ≤ length costs

@@ -1,15 +1,20 @@
 // The analysis: a table's bytes and an answer buffer to a number and the bytes written.
 ghost use Prim.Native.Nat.{_≤_};
-ghost use lib.ListN.{length};
+ghost use lib.ListN.{length, replicate};
+ghost use Rattle.table.specs.Filled.{Room};
+ghost use Rattle.table.specs.Reading.{start};
+ghost use Rattle.table.specs.Slices.{portsOf, linksOf, tableOf};
 ghost use Rattle.table.specs.Limits.{WellFormed};
 ghost use mathlib.Core.Path.{_≡_};
-ghost use Rattle.constraints.specs.Searched.{Labelled};
-ghost use Rattle.graph.specs.Timed.{TableRoom};
+ghost use Rattle.order.specs.Order.{Sortable, Sorted};
+ghost use Rattle.constraints.specs.Arranged.{Labelled, labelsOf, mostMembers};
+ghost use Rattle.graph.specs.Timed.{MembersSorted, TableRoom};
 ghost use Rattle.graph.specs.Analysis.{Decided, Analysed};
 use crate::timing;
 use constraints::slices;
 use records::write;
-use table::Table;
+use table::links;
+use table::ports;
 use table::reading;
 use timings::consistent;
 use weights::ratios;
@@ -31,30 +36,54 @@ pub fn analyse(s: &[u8], answer: &mut [u8]) -> Outcome
             written: 0,
         };
     }
-    let reading = reading::read_table(s);
-    if reading.number != 0 {
+    // A port has 8 bytes, a link at least 16.
+    if s.len() <= 128 {
+        let mut ports = [0u32; 32];
+        let mut links = [0u32; 72];
+        return read_in(s, &mut ports, &mut links, answer);
+    }
+    let mut ports = [0u32; 128];
+    if s.len() <= 512 {
+        let mut links = [0u32; 288];
+        return read_in(s, &mut ports, &mut links, answer);
+    }
+    let mut links = link_numbers();
+    read_in(s, &mut ports, &mut links, answer)
+}
+
+// The same with slices for the table.
+fn read_in(s: &[u8], ports: &mut [u32], links: &mut [u32], answer: &mut [u8]) -> Outcome
+    requires { ⌜ Room (length (now s)) start (length (now ports)) (length (now links)) ⌝ }
+    requires { ⌜ 5120 ≤ length (now answer) ⌝ }
+    ensures { λ r. ⌜ Analysed (now (s .entry)) (now (answer .entry)) (now (answer .exit)) r ⌝ }
+    ensures { λ r. ⌜ r .written ≤ 5120 ⌝ }
+{
+    let read = reading::read_table(s, ports, links);
+    if read.number != 0 {
         return Outcome {
-            number: reading.number,
+            number: read.number,
             written: 0,
         };
     }
-    decide(reading.table, answer)
+    let port_end = ports::WIDTH * read.port_count;
+    let link_end = links::WIDTH * read.link_count;
+    decide(&ports[..port_end], &links[..link_end], answer)
 }
 
 // 13, 14, or what the periods come to.
-fn decide(t: Table, answer: &mut [u8]) -> Outcome
-    requires { ⌜ WellFormed t ⌝ }
+fn decide(ports: &[u32], links: &[u32], answer: &mut [u8]) -> Outcome
+    requires { ⌜ WellFormed (tableOf (now ports) (now links)) ⌝ }
     requires { ⌜ 5120 ≤ length (now answer) ⌝ }
-    ensures { λ r. ⌜ Decided t (now (answer .entry)) (now (answer .exit)) r ⌝ }
+    ensures { λ r. ⌜ Decided (tableOf (now (ports .entry)) (now (links .entry))) (now (answer .entry)) (now (answer .exit)) r ⌝ }
 {
     let mut loop_numbers = [0u64; 128];
-    let r = ratios::ratios_of(t, &mut loop_numbers);
+    let r = ratios::ratios_of(ports, links, &mut loop_numbers);
     let agreement = r.agreement;
     match agreement {
         Agreement::Agreeing => {
             let labels = r.labels;
             let weights = r.weights;
-            time(t, labels, weights, answer)
+            time(ports, links, &labels, &weights, answer)
         }
         Agreement::Disagreeing(steps) => {
             let written = write::write_loop(answer, &loop_numbers[..2 * steps]);
@@ -70,28 +99,110 @@ fn decide(t: Table, answer: &mut [u8]) -> Outcome
     }
 }
 
-// 15, or 0 with the periods, starts and sizes. A small table has a small room, since clearing the room takes longer than the work.
-fn time(t: Table, labels: [usize; 64], weights: [u64; 64], answer: &mut [u8]) -> Outcome
-    requires { ⌜ Labelled t labels weights ⌝ }
+// 15, or 0 with the periods, starts and sizes. The room for the work is cleared before use, which takes longer than the work on a small
+// table; so it has three sizes.
+fn time(
+    ports: &[u32],
+    links: &[u32],
+    labels: &[usize; 64],
+    weights: &[u64; 64],
+    answer: &mut [u8],
+) -> Outcome
+    requires { ⌜ Labelled (tableOf (now ports) (now links)) (now labels) (now weights) ⌝ }
     requires { ⌜ 5120 ≤ length (now answer) ⌝ }
-    ensures { λ r. ⌜ Decided t (now (answer .entry)) (now (answer .exit)) r ⌝ }
+    ensures { λ r. ⌜ Decided (tableOf (now (ports .entry)) (now (links .entry))) (now (answer .entry)) (now (answer .exit)) r ⌝ }
 {
-    if 8 < t.port_count {
-        return time_large(t, labels, weights, answer);
+    let total = ports::count(ports);
+    let count = links::count(links);
+    let mut members = [0u64; 64];
+    let mut member_ends = [0usize; 65];
+    let most = sort_members(ports, links, labels, total, &mut member_ends, &mut members);
+    if count <= 8 {
+        if most <= 3 {
+            return time_small(
+                ports,
+                links,
+                labels,
+                weights,
+                &members,
+                &member_ends,
+                answer,
+            );
+        }
     }
-    if 32 < t.link_count {
-        return time_large(t, labels, weights, answer);
+    if count <= 32 {
+        if most <= 15 {
+            return time_middle(
+                ports,
+                links,
+                labels,
+                weights,
+                &members,
+                &member_ends,
+                answer,
+            );
+        }
     }
-    let mut links = [0u64; 224];
-    let mut numbers = [0u64; 32];
-    let mut edges = [0u64; 192];
-    let mut rows = [0u64; 576];
-    let mut costs = [0u64; 128];
-    time_in(
-        t,
+    time_large(
+        ports,
+        links,
         labels,
         weights,
-        &mut links,
+        &members,
+        &member_ends,
+        answer,
+    )
+}
+
+// The ports in the order of their labels. Answers the most ports of one component.
+fn sort_members(
+    ports: &[u32],
+    links: &[u32],
+    labels: &[usize],
+    total: usize,
+    member_ends: &mut [usize; 65],
+    members: &mut [u64],
+) -> usize
+    requires { ⌜ Sortable (labelsOf (tableOf (now ports) (now links)) (now labels)) (length (portsOf (now ports))) ⌝ }
+    requires { ⌜ total ≡ length (portsOf (now ports)) ⌝ }
+    requires { ⌜ total ≤ length (now labels) ⌝ }
+    requires { ⌜ total ≤ length (now members) ⌝ }
+    requires { ⌜ now «member_ends» ≡ replicate 65 0 ⌝ }
+    ensures { λ r. ⌜ Sorted (labelsOf (tableOf (now (ports .entry)) (now (links .entry))) (now (labels .entry))) (length (portsOf (now (ports .entry)))) (now («member_ends» .exit)) (now (members .entry)) (now (members .exit)) r ⌝ }
+{
+    order::sort(&labels[..total], total, member_ends, members)
+}
+
+// The same with room for 8 links, and for components of 3 ports.
+fn time_small(
+    ports: &[u32],
+    links: &[u32],
+    labels: &[usize; 64],
+    weights: &[u64; 64],
+    members: &[u64],
+    member_ends: &[usize; 65],
+    answer: &mut [u8],
+) -> Outcome
+    requires { ⌜ Labelled (tableOf (now ports) (now links)) (now labels) (now weights) ⌝ }
+    requires { ⌜ MembersSorted (tableOf (now ports) (now links)) (now labels) (now «member_ends») (now members) ⌝ }
+    requires { ⌜ mostMembers (tableOf (now ports) (now links)) (now labels) ≤ 3 ⌝ }
+    requires { ⌜ length (linksOf (now links)) ≤ 8 ⌝ }
+    requires { ⌜ 5120 ≤ length (now answer) ⌝ }
+    ensures { λ r. ⌜ Decided (tableOf (now (ports .entry)) (now (links .entry))) (now (answer .entry)) (now (answer .exit)) r ⌝ }
+{
+    let mut owners = [0usize; 8];
+    let mut numbers = [0u64; 8];
+    let mut edges = [0u64; 48];
+    let mut rows = [0u64; 256];
+    let mut costs = [0u64; 32];
+    time_in(
+        ports,
+        links,
+        labels,
+        weights,
+        members,
+        member_ends,
+        &mut owners,
         &mut numbers,
         &mut edges,
         &mut rows,
@@ -100,22 +211,72 @@ fn time(t: Table, labels: [usize; 64], weights: [u64; 64], answer: &mut [u8]) ->
     )
 }
 
-// The same with room for 64 ports and 256 links.
-fn time_large(t: Table, labels: [usize; 64], weights: [u64; 64], answer: &mut [u8]) -> Outcome
-    requires { ⌜ Labelled t labels weights ⌝ }
+// The same with room for 32 links, and for components of 15 ports.
+fn time_middle(
+    ports: &[u32],
+    links: &[u32],
+    labels: &[usize; 64],
+    weights: &[u64; 64],
+    members: &[u64],
+    member_ends: &[usize; 65],
+    answer: &mut [u8],
+) -> Outcome
+    requires { ⌜ Labelled (tableOf (now ports) (now links)) (now labels) (now weights) ⌝ }
+    requires { ⌜ MembersSorted (tableOf (now ports) (now links)) (now labels) (now «member_ends») (now members) ⌝ }
+    requires { ⌜ mostMembers (tableOf (now ports) (now links)) (now labels) ≤ 15 ⌝ }
+    requires { ⌜ length (linksOf (now links)) ≤ 32 ⌝ }
     requires { ⌜ 5120 ≤ length (now answer) ⌝ }
-    ensures { λ r. ⌜ Decided t (now (answer .entry)) (now (answer .exit)) r ⌝ }
+    ensures { λ r. ⌜ Decided (tableOf (now (ports .entry)) (now (links .entry))) (now (answer .entry)) (now (answer .exit)) r ⌝ }
 {
-    let mut links = link_room();
+    let mut owners = [0usize; 32];
+    let mut numbers = [0u64; 32];
+    let mut edges = [0u64; 192];
+    let mut rows = [0u64; 1024];
+    let mut costs = [0u64; 128];
+    time_in(
+        ports,
+        links,
+        labels,
+        weights,
+        members,
+        member_ends,
+        &mut owners,
+        &mut numbers,
+        &mut edges,
+        &mut rows,
+        &mut costs,
+        answer,
+    )
+}
+
+// The same with room for every table.
+fn time_large(
+    ports: &[u32],
+    links: &[u32],
+    labels: &[usize; 64],
+    weights: &[u64; 64],
+    members: &[u64],
+    member_ends: &[usize; 65],
+    answer: &mut [u8],
+) -> Outcome
+    requires { ⌜ Labelled (tableOf (now ports) (now links)) (now labels) (now weights) ⌝ }
+    requires { ⌜ MembersSorted (tableOf (now ports) (now links)) (now labels) (now «member_ends») (now members) ⌝ }
+    requires { ⌜ 5120 ≤ length (now answer) ⌝ }
+    ensures { λ r. ⌜ Decided (tableOf (now (ports .entry)) (now (links .entry))) (now (answer .entry)) (now (answer .exit)) r ⌝ }
+{
+    let mut owners = [0usize; 256];
     let mut numbers = [0u64; 256];
     let mut edges = edge_room();
     let mut rows = row_room();
     let mut costs = cost_room();
     time_in(
-        t,
+        ports,
+        links,
         labels,
         weights,
-        &mut links,
+        members,
+        member_ends,
+        &mut owners,
         &mut numbers,
         &mut edges,
         &mut rows,
@@ -126,32 +287,45 @@ fn time_large(t: Table, labels: [usize; 64], weights: [u64; 64], answer: &mut [u
 
 // The same in a room that is lent.
 fn time_in(
-    t: Table,
-    labels: [usize; 64],
-    weights: [u64; 64],
-    links: &mut [u64],
+    ports: &[u32],
+    links: &[u32],
+    labels: &[usize; 64],
+    weights: &[u64; 64],
+    members: &[u64],
+    member_ends: &[usize; 65],
+    owners: &mut [usize],
     numbers: &mut [u64],
     edges: &mut [u64],
     rows: &mut [u64],
     costs: &mut [u64],
     answer: &mut [u8],
 ) -> Outcome
-    requires { ⌜ Labelled t labels weights ⌝ }
-    requires { ⌜ TableRoom t (now links) (now numbers) (now edges) (now rows) (now costs) ⌝ }
+    requires { ⌜ Labelled (tableOf (now ports) (now links)) (now labels) (now weights) ⌝ }
+    requires { ⌜ MembersSorted (tableOf (now ports) (now links)) (now labels) (now «member_ends») (now members) ⌝ }
+    requires { ⌜ TableRoom (mostMembers (tableOf (now ports) (now links)) (now labels)) (length (linksOf (now links))) (now owners) (now numbers) (now edges) (now rows) (now costs) ⌝ }
     requires { ⌜ 5120 ≤ length (now answer) ⌝ }
-    ensures { λ r. ⌜ Decided t (now (answer .entry)) (now (answer .exit)) r ⌝ }
+    ensures { λ r. ⌜ Decided (tableOf (now (ports .entry)) (now (links .entry))) (now (answer .entry)) (now (answer .exit)) r ⌝ }
 {
     let mut limits = [0u64; 128];
+    let mut number_ends = [0usize; 65];
     let mut starts = [0u64; 64];
     let mut kept = [0u64; 192];
-    slices::limits_of(t, weights, &mut limits);
-    let size = slices::links_of(t, labels, weights, links);
+    let total = ports::count(ports);
+    slices::limits_of(ports, links, weights, &mut limits);
+    let count = slices::owners_of(ports, links, labels, owners);
+    order::sort(&owners[..count], total + 1, &mut number_ends, numbers);
+    let connections = number_ends[total - 1];
+    slices::edges_of(ports, links, weights, &numbers[..connections], edges);
     let shown = timing::time_all(
+        ports,
+        links,
         labels,
-        t.port_count,
+        weights,
         &limits,
-        &links[..size],
+        members,
+        member_ends,
         numbers,
+        &number_ends,
         edges,
         rows,
         costs,
@@ -165,15 +339,15 @@ fn time_in(
             written: shown,
         };
     }
-    let written = consistent::write_consistent(t, labels, weights, &kept, answer);
+    let written = consistent::write_consistent(ports, links, labels, weights, &kept, answer);
     Outcome { number: 0, written }
 }
 
-// Seven numbers for each of 256 links.
-fn link_room() -> [u64; 1792]
-    ensures { λ r. ⌜ 1792 ≡ length r ⌝ }
+// Nine numbers for each of 256 links.
+fn link_numbers() -> [u32; 2304]
+    ensures { λ r. ⌜ 2304 ≡ length r ⌝ }
 {
-    [0; 1792]
+    [0; 2304]
 }
 
 // Six numbers for each of 256 edges.

@@ -1,5 +1,5 @@
 // The least period of a component, or why there is none.
 mod cycle;
-mod limit;
+pub mod limit;
 mod price;
 pub mod search;

@@ -2,13 +2,14 @@
 ghost use mathlib.Core.Path.{_≡_};
 ghost use lib.ListN.{length};
 ghost use Rattle.period.specs.Component.{Component};
+ghost use Rattle.period.specs.Greatest.{GreatestLimit};
 ghost use Rattle.period.specs.Prices.{pricesOf};
 ghost use Rattle.period.specs.Search.{cycleOf, WithinSteps, Room, Ends};
 ghost use Rattle.period.specs.Sums.{Summing, SumsOf};
 ghost use Rattle.period.specs.Try.{Trying, Tries, SameLengths};
 use crate::cycle;
 use crate::cycle::Sums;
-use crate::limit;
+use crate::limit::Limit;
 use crate::price;
 use fraction::Fraction;
 use rounds::back;
@@ -81,23 +82,25 @@ fn cycle_sums(edges: &[u64], c: Cycle) -> Sums
     cycle::sums_of(edges, &steps[first..last])
 }
 
+// The search begins at the greatest of the ports' rate limits.
 pub fn least_period(
     ports: &[u64],
     limits: &[u64],
     edges: &[u64],
+    greatest: Limit,
     rows: &mut [u64],
     costs: &mut [u64],
     starts: &mut [u64],
 ) -> Search
     requires { ⌜ Component (now ports) (now limits) (now edges) ⌝ }
     requires { ⌜ Room (now ports) (now edges) (now rows) (now costs) (now starts) ⌝ }
+    requires { ⌜ GreatestLimit (now ports) (now limits) greatest ⌝ }
     ensures { λ r. ⌜ Ends (now (ports .entry)) (now (limits .entry)) (now (edges .entry)) r (now (starts .entry)) (now (starts .exit)) ⌝ }
     ensures { λ _. ⌜ length (now (rows .exit)) ≡ length (now (rows .entry)) ⌝ }
     ensures { λ _. ⌜ length (now (costs .exit)) ≡ length (now (costs .entry)) ⌝ }
     ensures { λ _. ⌜ length (now (starts .exit)) ≡ length (now (starts .entry)) ⌝ }
 {
     let n = ports.len();
-    let greatest = limit::greatest_limit(ports, limits);
     let none = Cycle {
         steps: [0u64; 64],
         part: Part { first: 0, last: 0 },

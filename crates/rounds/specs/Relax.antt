@@ -4,7 +4,7 @@ use mathlib.Core.Path.{_≡_}
 use mathlib.Core.Logic.{_≢_}
 use mathlib.Core.List.{List}
 use lib.ListN.{length, getD}
-use Rattle.rounds.specs.Costs.{count, fromOf, toOf, gainOf, mostCost, Priced}
+use Rattle.rounds.specs.Costs.{count, fromOf, toOf, gainOf, lossOf, mostCost, Priced}
 use Rattle.rounds.specs.Starts.{roundOf}
 
 -- edge k can be relaxed, from the starts s into t
@@ -13,6 +13,7 @@ pub record Ready (cs s t : List ℕ) (k : ℕ) : Type 0 where
   pub from-in : fromOf cs k < length s
   pub to-in : toOf cs k < length t
   pub reach : getD s (fromOf cs k) 0 + gainOf cs k < 2 ^ 64
+  pub least : getD t (toOf cs k) 0 + lossOf cs k < 2 ^ 64
 
 -- a round can be made from the starts s: those of 64 ports, after at most 64 rounds from zero
 pub record Low (cs s : List ℕ) : Type 0 where

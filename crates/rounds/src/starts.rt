@@ -25,16 +25,13 @@ fn relax(old: &[u64], new: &mut [u64], costs: &[u64], k: usize)
     let at = 4 * k;
     let from = costs[at] as usize;
     let to = costs[at + 1] as usize;
-    let reach = old[from] + costs[at + 2];
     let loss = costs[at + 3];
-    if reach <= loss {
+    let reach = old[from] + costs[at + 2];
+    // One comparison: what it asks for is greater than zero where it is greater than the start.
+    if reach <= new[to] + loss {
         return;
     }
-    let start = reach - loss;
-    if start <= new[to] {
-        return;
-    }
-    new[to] = start;
+    new[to] = reach - loss;
 }
 
 fn copy(src: &[u64], dst: &mut [u64])

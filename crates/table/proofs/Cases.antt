@@ -22,7 +22,7 @@ use Rattle.table.specs.Record.{
   kindAt,
   recordAt,
 }
-use Rattle.table.specs.Reading.{tableOf, beforeNext, readFrom, readTable}
+use Rattle.table.specs.Reading.{readFrom, readOn, readTable}
 
 record Case : Type 0 where
   table : List ℕ
@@ -120,5 +120,5 @@ cases =
     ∷ []
 
 numbers-hold : map (λ c. readTable (c .table) .number) cases ≡ map (λ c. c .number) cases
-unfolding cases _gives_ port connection buffer minus one bytes encode numberAt forward back lengthFaulty partFaulty partsFaulty endsFaulty amountFaulty ticksAt eventsAt portOf linkOf portAt linkAt connectionAt bufferAt kindAt recordAt tableOf beforeNext readFrom readTable
+unfolding cases _gives_ port connection buffer minus one bytes encode numberAt forward back lengthFaulty partFaulty partsFaulty endsFaulty amountFaulty ticksAt eventsAt portOf linkOf portAt linkAt connectionAt bufferAt kindAt recordAt readFrom readOn readTable
 numbers-hold = refl

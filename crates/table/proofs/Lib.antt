@@ -1,2 +1,3 @@
 -- What belongs to no one function.
+mod Stored
 mod Cases

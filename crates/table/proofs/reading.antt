@@ -1,2 +1,3 @@
--- What the proof of `read_table` uses.
+-- What the proofs of `read_on` and `read_table` use.
+mod Filling
 mod Going

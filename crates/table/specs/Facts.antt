@@ -36,21 +36,21 @@ use Rattle.table.specs.declared.record.Before.{Before}
 use Rattle.table.specs.declared.record.Read.{Read}
 use Rattle.table.specs.declared.record.Read.the-variants.{PortRecord, LinkRecord, Refused, End}
 
--- the place behind a record that is not refused is past its own and within the table
-pub record Onward (s : List ℕ) (at next : ℕ) : Type 0 where
-  pub past : at < next
+-- the place behind a record of so many bytes or more is within the table
+pub record Onward (s : List ℕ) (at bytes next : ℕ) : Type 0 where
+  pub past : at + bytes ≤ next
   pub within : next ≤ length s
 
 -- a port record: there was room for it, it could come here, and its rate is within the limits
 pub record PortAccepted (s : List ℕ) (at : ℕ) (before : Before) (p : Port) (next : ℕ) : Type 0 where
-  pub onward : Onward s at next
+  pub onward : Onward s at 8 next
   pub room : before .ports < mostPorts
   pub may-come : before .«port_may_come» ≡ true
   pub fits : PortFits p
 
 -- a connection or buffer: there was room for it, and it is within the limits
 pub record LinkAccepted (s : List ℕ) (at : ℕ) (before : Before) (l : Link) (next : ℕ) : Type 0 where
-  pub onward : Onward s at next
+  pub onward : Onward s at 16 next
   pub room : before .links < mostLinks
   pub fits : LinkFits (before .named) l
 
@@ -159,7 +159,7 @@ module _ (s : List ℕ) (at : ℕ) (before : Before) where
             fits = record { num = fit .num; den = fit .den };
           }
 
-  tells-link : (events : Events) (buffer : Bool) (next : ℕ) → Onward s at next → Tells (linkAt s at before events buffer next)
+  tells-link : (events : Events) (buffer : Bool) (next : ℕ) → Onward s at 16 next → Tells (linkAt s at before events buffer next)
   unfolding linkAt linkOf
   tells-link events buffer next onward = behind 7 (omega arith) _ _ (λ room. behind 9 (omega arith) _ _ (λ ends. behind 10 (omega arith) _ _ (λ parts. behind 11 (omega arith) _ _ (λ amounts. record { told = told room ends parts amounts }))))
     where

@@ -1,10 +1,8 @@
 -- The limits of a table, and what it is to be within them. Assumes nothing.
 use Prim.Native.Nat.{ℕ, _≤_, _<_}
-use mathlib.Core.Bool.{false}
-use lib.ListN.{getD}
 use Rattle.table.specs.declared.Port.{Port}
 use Rattle.table.specs.declared.Link.{Link}
-use Rattle.table.specs.declared.Table.{Table}
+use Rattle.table.specs.Table.{Table, portCount, linkCount, port, link}
 
 -- at most 64 ports and 256 connections and buffers together
 abbrev pub mostPorts : ℕ
@@ -43,23 +41,10 @@ pub record LinkFits (ports : ℕ) (l : Link) : Type 0 where
   pub events-forward : l .events .0 ≤ mostEvents
   pub events-back : l .events .1 ≤ mostEvents
 
--- what fills the arrays of a table behind its ports and links
-abbrev pub noPort : Port
-noPort = record { num = 0; den = 0 }
-
-abbrev pub noLink : Link
-noLink = record { from = 0; to = 0; num = 0; den = 0; ticks = (0, 0); events = (0, 0); buffer = false }
-
-abbrev pub port : Table → ℕ → Port
-port t p = getD (t .ports) p noPort
-
-abbrev pub link : Table → ℕ → Link
-link t k = getD (t .links) k noLink
-
 -- what holds of every table that is read with number 0
 pub record WellFormed (t : Table) : Type 0 where
-  pub some-port : 0 < t .«port_count»
-  pub few-ports : t .«port_count» ≤ mostPorts
-  pub few-links : t .«link_count» ≤ mostLinks
-  pub ports : (p : ℕ) → p < t .«port_count» → PortFits (port t p)
-  pub links : (k : ℕ) → k < t .«link_count» → LinkFits (t .«port_count») (link t k)
+  pub some-port : 0 < portCount t
+  pub few-ports : portCount t ≤ mostPorts
+  pub few-links : linkCount t ≤ mostLinks
+  pub ports : (p : ℕ) → p < portCount t → PortFits (port t p)
+  pub links : (k : ℕ) → k < linkCount t → LinkFits (portCount t) (link t k)

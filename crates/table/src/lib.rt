@@ -1,6 +1,9 @@
-// The model table: ports, connections and buffers; reading one from bytes.
+// The model table: ports, connections and buffers; reading one from bytes into two slices of numbers, `ports` and `links`.
 pub mod limits;
+pub mod links;
 mod numbers;
+pub mod ports;
+mod put;
 pub mod reading;
 pub mod record;
 
@@ -12,25 +15,17 @@ pub struct Events(pub u64, pub u64);
 
 // A port; its maximum rate is num / den events per tick.
 pub struct Port {
-    pub num: u16,
-    pub den: u16,
+    pub num: u64,
+    pub den: u64,
 }
 
 // A connection, or a buffer, which has no events. Its ratio is num / den.
 pub struct Link {
-    pub from: u16,
-    pub to: u16,
-    pub num: u16,
-    pub den: u16,
+    pub from: usize,
+    pub to: usize,
+    pub num: u64,
+    pub den: u64,
     pub ticks: Ticks,
     pub events: Events,
     pub buffer: bool,
-}
-
-// The ports and links of a model, each at the index that is its number.
-pub struct Table {
-    pub ports: [Port; limits::PORTS],
-    pub port_count: usize,
-    pub links: [Link; limits::LINKS],
-    pub link_count: usize,
 }

@@ -5,6 +5,13 @@ ghost use lib.ListN.{length, getD};
 ghost use Rattle.records.specs.Bytes.{numberAt};
 ghost use Rattle.table.specs.Signed.{forward, back};
 
+// A number of the slices of ports and links; a call, so that the reader owes no proof that it fits.
+pub fn wide(x: u32) -> u64
+    ensures { λ r. ⌜ r ≡ x ⌝ }
+{
+    x as u64
+}
+
 fn byte(s: &[u8], at: usize) -> u64
     requires { ⌜ at < length (now s) ⌝ }
     ensures { λ r. ⌜ (r ≡ getD (now (s .entry)) at 0) × (r < 256) ⌝ }

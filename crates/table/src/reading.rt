@@ -1,91 +1,113 @@
-// Reads a whole table.
+// Reads a whole table into two slices of numbers.
 ghost use mathlib.Core.Path.{_≡_};
-ghost use mathlib.Core.List.{[]};
-ghost use Rattle.table.specs.Reading.{tableOf, beforeNext, readTable};
-use crate::Events;
+ghost use Prim.Native.Nat.{_+_, _<_};
+ghost use lib.ListN.{length};
+ghost use Rattle.table.specs.Reading.{withPort, withLink, readOn, start, readTable};
+ghost use Rattle.table.specs.Filled.{moved, Room, Filled};
 use crate::Link;
-use crate::Port;
-use crate::Table;
-use crate::Ticks;
-use crate::limits;
+use crate::links;
+use crate::ports;
 use crate::record;
 use crate::record::Before;
 use crate::record::Read;
 
-// The number of document 01, 0 where there is no fault, and what was read before the fault.
-pub struct Reading {
+// The number of document 01, 0 where there is no fault, and how many ports and links the slices hold.
+pub struct Counts {
     pub number: u64,
-    pub table: Table,
+    pub port_count: usize,
+    pub link_count: usize,
 }
 
-fn empty() -> Table
-    ensures { λ r. ⌜ r ≡ tableOf [] [] ⌝ }
+fn with_port(b: Before) -> Before
+    requires { ⌜ b .ports < 64 ⌝ }
+    requires { ⌜ b .named < 64 ⌝ }
+    ensures { λ r. ⌜ r ≡ withPort b ⌝ }
 {
-    let port = Port { num: 0, den: 0 };
-    let link = Link {
-        from: 0,
-        to: 0,
-        num: 0,
-        den: 0,
-        ticks: Ticks(0, 0),
-        events: Events(0, 0),
-        buffer: false,
-    };
-    let ports = [port; limits::PORTS];
-    let links = [link; limits::LINKS];
-    Table {
-        ports,
-        port_count: 0,
-        links,
-        link_count: 0,
-    }
+    let mut next = b;
+    next.ports = b.ports + 1;
+    next.named = b.named + 1;
+    next
 }
 
-fn before_next(ports: usize, links: usize) -> Before
-    ensures { λ r. ⌜ r ≡ beforeNext ports links ⌝ }
+fn with_link(b: Before) -> Before
+    requires { ⌜ b .links < 256 ⌝ }
+    ensures { λ r. ⌜ r ≡ withLink b ⌝ }
 {
-    Before {
-        ports,
-        links,
-        named: ports,
-        port_may_come: links == 0,
-    }
+    let mut next = b;
+    next.links = b.links + 1;
+    next.port_may_come = false;
+    next
 }
 
-pub fn read_table(s: &[u8]) -> Reading
-    ensures { λ r. ⌜ r ≡ readTable (now (s .entry)) ⌝ }
+// The link between the ports so many numbers higher.
+fn move_up(l: Link, by: usize) -> Link
+    requires { ⌜ by + l .from < 64 ⌝ }
+    requires { ⌜ by + l .to < 64 ⌝ }
+    ensures { λ r. ⌜ r ≡ moved by l ⌝ }
 {
-    let mut t = empty();
+    let mut next = l;
+    next.from = by + l.from;
+    next.to = by + l.to;
+    next
+}
+
+// Reads the records of an input behind what was read before it. Its own ports are numbered from 0; they and the ends of its links move up
+// behind the ports before them.
+pub fn read_on(s: &[u8], before: Before, ports: &mut [u32], links: &mut [u32]) -> Counts
+    requires { ⌜ Room (length (now s)) before (length (now ports)) (length (now links)) ⌝ }
+    ensures { λ r. ⌜ Filled before (readOn (now (s .entry)) before) (now (ports .entry)) (now (links .entry)) (now (ports .exit)) (now (links .exit)) r ⌝ }
+{
+    let by = before.ports - before.named;
+    let mut b = before;
     let mut at: usize = 0;
     loop {
-        match record::read_record(s, at, before_next(t.port_count, t.link_count)) {
+        let port_count = b.ports;
+        let link_count = b.links;
+        match record::read_record(s, at, b) {
             Read::PortRecord(p, next) => {
-                let k = t.port_count;
-                t.ports[k] = p;
-                t.port_count = k + 1;
+                ports::store(ports, port_count, p);
+                b = with_port(b);
                 at = next;
             }
             Read::LinkRecord(l, next) => {
-                let k = t.link_count;
-                t.links[k] = l;
-                t.link_count = k + 1;
+                links::store(links, link_count, move_up(l, by));
+                b = with_link(b);
                 at = next;
             }
             Read::Refused(number) => {
-                return Reading { number, table: t };
+                return Counts {
+                    number,
+                    port_count,
+                    link_count,
+                };
             }
             Read::End => {
-                if t.port_count == 0 {
-                    return Reading {
-                        number: 12,
-                        table: t,
-                    };
-                }
-                return Reading {
+                return Counts {
                     number: 0,
-                    table: t,
+                    port_count,
+                    link_count,
                 };
             }
         }
     }
+}
+
+// Reads a table: the case with nothing before it, and 12 where it has no port.
+pub fn read_table(s: &[u8], ports: &mut [u32], links: &mut [u32]) -> Counts
+    requires { ⌜ Room (length (now s)) start (length (now ports)) (length (now links)) ⌝ }
+    ensures { λ r. ⌜ Filled start (readTable (now (s .entry))) (now (ports .entry)) (now (links .entry)) (now (ports .exit)) (now (links .exit)) r ⌝ }
+{
+    let before = Before {
+        ports: 0,
+        links: 0,
+        named: 0,
+        port_may_come: true,
+    };
+    let mut read = read_on(s, before, ports, links);
+    if read.number == 0 {
+        if read.port_count == 0 {
+            read.number = 12;
+        }
+    }
+    read
 }

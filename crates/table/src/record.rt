@@ -118,8 +118,8 @@ fn port_of(s: &[u8], at: usize) -> Port
     requires { ⌜ at + 4 ≤ length (now s) ⌝ }
     ensures { λ r. ⌜ r ≡ portOf (now (s .entry)) at ⌝ }
 {
-    let num = numbers::two_bytes(s, at) as u16;
-    let den = numbers::two_bytes(s, at + 2) as u16;
+    let num = numbers::two_bytes(s, at);
+    let den = numbers::two_bytes(s, at + 2);
     Port { num, den }
 }
 
@@ -127,10 +127,10 @@ fn link_of(s: &[u8], at: usize, ticks: Ticks, events: Events, buffer: bool) -> L
     requires { ⌜ at + 8 ≤ length (now s) ⌝ }
     ensures { λ r. ⌜ r ≡ linkOf (now (s .entry)) at ticks events buffer ⌝ }
 {
-    let from = numbers::two_bytes(s, at) as u16;
-    let to = numbers::two_bytes(s, at + 2) as u16;
-    let num = numbers::two_bytes(s, at + 4) as u16;
-    let den = numbers::two_bytes(s, at + 6) as u16;
+    let from = numbers::two_bytes(s, at) as usize;
+    let to = numbers::two_bytes(s, at + 2) as usize;
+    let num = numbers::two_bytes(s, at + 4);
+    let den = numbers::two_bytes(s, at + 6);
     Link {
         from,
         to,

@@ -8,9 +8,8 @@ use native.Mathlib.Omega.{arith}
 use borrow.Author.Tests.{le-leb, lt-leb}
 use lib.ListN.{getD}
 use Rattle.rounds.specs.Lists.{lt-or-le}
-use Rattle.table.specs.Limits.{link}
 use Rattle.table.specs.declared.Link.{Link}
-use Rattle.table.specs.declared.Table.{Table}
+use Rattle.table.specs.Table.{Table, link}
 use Rattle.ways.specs.Model.{IsLink}
 use Rattle.period.specs.PricesLaws.{mostProduct, product-most}
 use Rattle.answers.specs.Constraints.{IsBuffer}

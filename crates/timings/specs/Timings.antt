@@ -6,9 +6,9 @@ use mathlib.Core.List.{List}
 use native.Mathlib.Omega.{arith}
 use lib.Dec.{leb}
 use lib.ListN.{length, getD}
-use Rattle.table.specs.Limits.{WellFormed, link, mostTicks}
+use Rattle.table.specs.Limits.{WellFormed, mostTicks}
 use Rattle.table.specs.declared.Link.{Link}
-use Rattle.table.specs.declared.Table.{Table}
+use Rattle.table.specs.Table.{Table, link}
 use Rattle.ways.specs.Model.{IsPort}
 use Rattle.period.specs.Component.{mostRate}
 use Rattle.period.specs.Search.{mostStart}

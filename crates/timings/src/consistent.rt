@@ -1,27 +1,31 @@
 // The records of number 0: one for each port, then one for each buffer.
 ghost use Prim.Native.Nat.{_≤_, _*_};
 ghost use lib.ListN.{length};
+ghost use Rattle.table.specs.Slices.{portsOf, linksOf, tableOf};
 ghost use Rattle.records.specs.Answer.{Written};
 ghost use Rattle.answers.specs.Answers.{consistent, portRecords, bufferRecords, records};
 ghost use Rattle.timings.specs.Timings.{timingOf, TableNumbers};
 use crate::sizes;
 use records::write;
-use table::Table;
+use table::links;
+use table::ports;
 
 fn write_ports(
-    t: Table,
-    labels: [usize; 64],
-    weights: [u64; 64],
+    ports: &[u32],
+    links: &[u32],
+    labels: &[usize; 64],
+    weights: &[u64; 64],
     timing: &[u64],
     answer: &mut [u8],
 ) -> usize
-    requires { ⌜ TableNumbers t weights (now timing) ⌝ }
-    requires { ⌜ 24 * t .«port_count» ≤ length (now answer) ⌝ }
-    ensures { λ r. ⌜ Written (portRecords (timingOf t labels weights (now (timing .entry))) (t .«port_count»)) (now (answer .entry)) (now (answer .exit)) r ⌝ }
+    requires { ⌜ TableNumbers (tableOf (now ports) (now links)) (now weights) (now timing) ⌝ }
+    requires { ⌜ 24 * length (portsOf (now ports)) ≤ length (now answer) ⌝ }
+    ensures { λ r. ⌜ Written (portRecords (timingOf (tableOf (now (ports .entry)) (now (links .entry))) (now (labels .entry)) (now (weights .entry)) (now (timing .entry))) (length (portsOf (now (ports .entry))))) (now (answer .entry)) (now (answer .exit)) r ⌝ }
 {
+    let count = ports::count(ports);
     let mut at: usize = 0;
     let mut p: usize = 0;
-    while p < t.port_count {
+    while p < count {
         let component = labels[p] as u64;
         let a = timing[3 * p];
         let b = timing[3 * p + 1];
@@ -33,22 +37,23 @@ fn write_ports(
 }
 
 fn write_buffers(
-    t: Table,
-    labels: [usize; 64],
-    weights: [u64; 64],
+    ports: &[u32],
+    links: &[u32],
+    labels: &[usize; 64],
+    weights: &[u64; 64],
     timing: &[u64],
     answer: &mut [u8],
 ) -> usize
-    requires { ⌜ TableNumbers t weights (now timing) ⌝ }
-    requires { ⌜ 14 * t .«link_count» ≤ length (now answer) ⌝ }
-    ensures { λ r. ⌜ Written (bufferRecords t (timingOf t labels weights (now (timing .entry))) (t .«link_count»)) (now (answer .entry)) (now (answer .exit)) r ⌝ }
+    requires { ⌜ TableNumbers (tableOf (now ports) (now links)) (now weights) (now timing) ⌝ }
+    requires { ⌜ 14 * length (linksOf (now links)) ≤ length (now answer) ⌝ }
+    ensures { λ r. ⌜ Written (bufferRecords (tableOf (now (ports .entry)) (now (links .entry))) (timingOf (tableOf (now (ports .entry)) (now (links .entry))) (now (labels .entry)) (now (weights .entry)) (now (timing .entry))) (length (linksOf (now (links .entry))))) (now (answer .entry)) (now (answer .exit)) r ⌝ }
 {
+    let count = links::count(links);
     let mut at: usize = 0;
     let mut k: usize = 0;
-    while k < t.link_count {
-        let l = t.links[k];
-        if l.buffer {
-            let d = sizes::size_of(l, &weights, timing);
+    while k < count {
+        if links::buffer(links, k) {
+            let d = sizes::size_of(links::at(links, k), weights, timing);
             at = at + write::write_buffer(&mut answer[at..], k as u64, d);
         }
         k = k + 1;
@@ -57,16 +62,17 @@ fn write_buffers(
 }
 
 pub fn write_consistent(
-    t: Table,
-    labels: [usize; 64],
-    weights: [u64; 64],
+    ports: &[u32],
+    links: &[u32],
+    labels: &[usize; 64],
+    weights: &[u64; 64],
     timing: &[u64],
     answer: &mut [u8],
 ) -> usize
-    requires { ⌜ TableNumbers t weights (now timing) ⌝ }
+    requires { ⌜ TableNumbers (tableOf (now ports) (now links)) (now weights) (now timing) ⌝ }
     requires { ⌜ 5120 ≤ length (now answer) ⌝ }
-    ensures { λ r. ⌜ Written (records t (consistent (timingOf t labels weights (now (timing .entry))))) (now (answer .entry)) (now (answer .exit)) r ⌝ }
+    ensures { λ r. ⌜ Written (records (tableOf (now (ports .entry)) (now (links .entry))) (consistent (timingOf (tableOf (now (ports .entry)) (now (links .entry))) (now (labels .entry)) (now (weights .entry)) (now (timing .entry))))) (now (answer .entry)) (now (answer .exit)) r ⌝ }
 {
-    let at = write_ports(t, labels, weights, timing, answer);
-    at + write_buffers(t, labels, weights, timing, &mut answer[at..])
+    let at = write_ports(ports, links, labels, weights, timing, answer);
+    at + write_buffers(ports, links, labels, weights, timing, &mut answer[at..])
 }

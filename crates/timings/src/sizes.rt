@@ -22,8 +22,8 @@ pub fn size_of(l: Link, weights: &[u64], timing: &[u64]) -> u64
     requires { ⌜ BufferNumbers l (now weights) (now timing) ⌝ }
     ensures { λ r. ⌜ r ≡ sizeAt l (now (weights .entry)) (now (timing .entry)) ⌝ }
 {
-    let from = l.from as usize;
-    let to = l.to as usize;
+    let from = l.from;
+    let to = l.to;
     let ticks = l.ticks;
     let a = timing[3 * from];
     let b = timing[3 * from + 1];

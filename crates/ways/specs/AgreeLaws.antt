@@ -10,7 +10,7 @@ use native.Mathlib.Omega.{arith}
 use lib.Dec.{eqb}
 use borrow.Author.Tests.{eq-eqb, ne-eqb}
 use Rattle.table.specs.Limits.{WellFormed}
-use Rattle.table.specs.declared.Table.{Table}
+use Rattle.table.specs.Table.{Table, linkCount}
 use Rattle.ways.specs.Model.{IsLink, from, to, num, den}
 use Rattle.ways.specs.Ways.{Step, Way, stay, walk, above, below, Agree}
 use Rattle.ways.specs.Weights.{Proportional}
@@ -154,13 +154,13 @@ labelled-next {t} {k} formed i l = decided (ℕ-discrete (l .label (from t k)) (
     decided (yes e) = labelled-same l e
     decided (no apart) = labelled-apart l i apart formed
 
-labelled : {t : Table} → WellFormed t → (k : ℕ) → k ≤ t .«link_count» → Labelled t k
+labelled : {t : Table} → WellFormed t → (k : ℕ) → k ≤ linkCount t → Labelled t k
 labelled {t} formed zero h = labelled-none t
 labelled formed (suc k) h = labelled-next formed (record { below = h }) (labelled formed k (omega arith))
 
 pub agree-proportional : {t : Table} → Agree t → WellFormed t → (w : ℕ → ℕ) × Proportional t w
 agree-proportional {t} agree formed =
-    let l = labelled formed (t .«link_count») (le-refl (t .«link_count»)) in (
+    let l = labelled formed (linkCount t) (le-refl (linkCount t)) in (
       l .weight,
       record {
         positive = λ p i. l .positive p;

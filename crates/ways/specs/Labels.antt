@@ -3,11 +3,11 @@ use Prim.Native.Nat.{ℕ, _≤_, _<_}
 use mathlib.Core.Path.{_≡_}
 use mathlib.Core.List.{List}
 use lib.ListN.{length, getD}
-use Rattle.table.specs.declared.Table.{Table}
+use Rattle.table.specs.Table.{Table, portCount}
 use Rattle.ways.specs.Model.{IsPort}
 use Rattle.ways.specs.Ways.{Component}
 
 pub record Components (t : Table) (labels : List ℕ) : Type 0 where
   pub long : length labels ≡ 64
   pub each : (p : ℕ) → IsPort t p → Component t p (getD labels p 0)
-  pub rest : (p : ℕ) → t .«port_count» ≤ p → p < 64 → getD labels p 0 ≡ p
+  pub rest : (p : ℕ) → portCount t ≤ p → p < 64 → getD labels p 0 ≡ p

@@ -1,15 +1,14 @@
 -- The ports and links of a table, by their numbers. Assumes nothing.
 use Prim.Native.Nat.{ℕ, _<_}
-use Rattle.table.specs.Limits.{link}
-use Rattle.table.specs.declared.Table.{Table}
+use Rattle.table.specs.Table.{Table, portCount, linkCount, link}
 
 module _ (t : Table) where
   pub record IsPort (p : ℕ) : Type 0 where
-    pub below : p < t .«port_count»
+    pub below : p < portCount t
 
   -- k is the number of a connection or buffer
   pub record IsLink (k : ℕ) : Type 0 where
-    pub below : k < t .«link_count»
+    pub below : k < linkCount t
 
   abbrev pub from : ℕ → ℕ
   from k = link t k .from

@@ -5,7 +5,7 @@ use mathlib.Core.Path.{_≡_}
 use mathlib.Core.Logic.{_⊎_}
 use mathlib.Core.List.{List}
 use lib.ListN.{length, getD, set}
-use Rattle.table.specs.declared.Table.{Table}
+use Rattle.table.specs.Table.{Table, linkCount}
 use Rattle.rounds.specs.Lists.{sum}
 use Rattle.ways.specs.Model.{from, to}
 use Rattle.ways.specs.Ways.{Joined}
@@ -47,7 +47,7 @@ module _ (t : Table) where
 
   -- the links below k make l′ of the labels l, and r says whether a label changed
   pub record Passed (k : ℕ) (l l′ : List ℕ) (r : Bool) : Type 0 where
-    pub within : k ≤ t .«link_count»
+    pub within : k ≤ linkCount t
     pub sound : Sound l′
     pub most : sum (λ v. v) l′ ≤ sum (λ v. v) l
     pub less : r ≡ true → sum (λ v. v) l′ < sum (λ v. v) l

@@ -6,7 +6,7 @@ use mathlib.Core.List.{List, [], _∷_, _++_}
 use native.Mathlib.Nat.{le-antisymm, mul-pos}
 use native.Mathlib.Omega.{arith}
 use Rattle.table.specs.Limits.{WellFormed}
-use Rattle.table.specs.declared.Table.{Table}
+use Rattle.table.specs.Table.{Table}
 use Rattle.ways.specs.Model.{IsPort, IsLink, from, to, num, den}
 use Rattle.ways.specs.Ways.{Step, leaves, Way, stay, walk, above, below, Joined, Component}
 

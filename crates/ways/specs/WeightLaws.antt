@@ -11,7 +11,7 @@ use Rattle.fraction.specs.Prime.{IsPrime, least-divisor, least-divisor-prime}
 use Rattle.fraction.specs.Lowest.{lowestTerms, lowest-is, lowest-above-zero}
 use Rattle.rounds.specs.Lists.{_∈_}
 use Rattle.table.specs.Limits.{WellFormed}
-use Rattle.table.specs.declared.Table.{Table}
+use Rattle.table.specs.Table.{Table}
 use Rattle.ways.specs.Model.{IsPort, IsLink, from, to, num, den}
 use Rattle.ways.specs.Ways.{Step, leaves, Way, stay, walk, above, below, Agree, Joined}
 use Rattle.ways.specs.Weights.{Proportional, Weights}

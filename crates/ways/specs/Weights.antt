@@ -1,7 +1,7 @@
 -- Weights: whole numbers that stand to each other as the periods, the smallest such. Assumes nothing.
 use Prim.Native.Nat.{ℕ, _*_, _≤_, _<_}
 use mathlib.Core.Path.{_≡_}
-use Rattle.table.specs.declared.Table.{Table}
+use Rattle.table.specs.Table.{Table}
 use Rattle.ways.specs.Model.{IsPort, IsLink, from, to, num, den}
 
 module _ (t : Table) where

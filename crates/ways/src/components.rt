@@ -1,8 +1,10 @@
 // The components of a table.
+ghost use lib.ListN.{length};
 ghost use Rattle.table.specs.Limits.{WellFormed};
+ghost use Rattle.table.specs.Slices.{linksOf, tableOf};
 ghost use Rattle.ways.specs.Labels.{Components};
 ghost use Rattle.ways.specs.Passes.{Own, Both, Levelled, Sound, Passed};
-use table::Table;
+use table::links;
 
 // Gives two ports the smaller of their labels. Says whether the labels differed.
 fn level(labels: &mut [usize; 64], p: usize, q: usize) -> bool
@@ -23,17 +25,16 @@ fn level(labels: &mut [usize; 64], p: usize, q: usize) -> bool
 }
 
 // One pass over the links: each gives both its ends the smaller label. Says whether a label changed.
-fn pass(t: Table, labels: &mut [usize; 64]) -> bool
-    requires { ⌜ WellFormed t ⌝ }
-    requires { ⌜ Sound t (now labels) ⌝ }
-    ensures { λ r. ⌜ Passed t (t .«link_count») (now (labels .entry)) (now (labels .exit)) r ⌝ }
+fn pass(ports: &[u32], links: &[u32], labels: &mut [usize; 64]) -> bool
+    requires { ⌜ WellFormed (tableOf (now ports) (now links)) ⌝ }
+    requires { ⌜ Sound (tableOf (now ports) (now links)) (now labels) ⌝ }
+    ensures { λ r. ⌜ Passed (tableOf (now (ports .entry)) (now (links .entry))) (length (linksOf (now (links .entry)))) (now (labels .entry)) (now (labels .exit)) r ⌝ }
 {
+    let count = links::count(links);
     let mut changed = false;
     let mut k: usize = 0;
-    while k < t.link_count {
-        let from = t.links[k].from as usize;
-        let to = t.links[k].to as usize;
-        if level(labels, from, to) {
+    while k < count {
+        if level(labels, links::from(links, k), links::to(links, k)) {
             changed = true;
         }
         k = k + 1;
@@ -42,12 +43,12 @@ fn pass(t: Table, labels: &mut [usize; 64]) -> bool
 }
 
 // For each port the lowest port that it is joined to; past the ports each number itself.
-pub fn components(t: Table) -> [usize; 64]
-    requires { ⌜ WellFormed t ⌝ }
-    ensures { λ r. ⌜ Components t r ⌝ }
+pub fn components(ports: &[u32], links: &[u32]) -> [usize; 64]
+    requires { ⌜ WellFormed (tableOf (now ports) (now links)) ⌝ }
+    ensures { λ r. ⌜ Components (tableOf (now (ports .entry)) (now (links .entry))) r ⌝ }
 {
     let mut labels = own_labels();
-    while pass(t, &mut labels) {}
+    while pass(ports, links, &mut labels) {}
     labels
 }
 

@@ -4,7 +4,7 @@ use lib.ListN.{getD}
 use mathlib.Core.Path.{_≡_}
 use mathlib.Core.List.{List, map}
 use Rattle.rounds.specs.Lists.{Distinct}
-use Rattle.table.specs.declared.Table.{Table}
+use Rattle.table.specs.Table.{Table}
 use Rattle.ways.specs.Ways.{Step, Way, comes, above, below}
 use Rattle.ways.specs.Labels.{Components}
 use Rattle.forest.specs.Loop.{stepsFrom}

@@ -5,7 +5,7 @@ use mathlib.Core.Bool.{true, false}
 use mathlib.Core.List.{List}
 use lib.ListN.{getD, length}
 use Rattle.table.specs.Limits.{WellFormed}
-use Rattle.table.specs.declared.Table.{Table}
+use Rattle.table.specs.Table.{Table, portCount}
 use Rattle.ways.specs.Model.{IsPort, IsLink}
 use Rattle.ways.specs.Weights.{Weights}
 use Rattle.ways.specs.Labels.{Components}
@@ -36,7 +36,7 @@ pub record HasWeights (t : Table) (weights : List ℕ) : Type 0 where
   pub long : length weights ≡ 64
   pub are : Weights t (λ p. getD weights p 0)
   pub small : (p : ℕ) → IsPort t p → getD weights p 0 ≤ mostWeight
-  pub rest : (p : ℕ) → t .«port_count» ≤ p → getD weights p 0 ≡ 0
+  pub rest : (p : ℕ) → portCount t ≤ p → getD weights p 0 ≡ 0
 
 -- 1 for each of so many ports, and 0 past them
 pub record Ones (ports : ℕ) (weights : List ℕ) : Type 0 where

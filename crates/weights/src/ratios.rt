@@ -1,4 +1,5 @@
 // The components, ratios and weights of a table: numbers 13 and 14.
+ghost use Rattle.table.specs.Slices.{tableOf};
 ghost use Rattle.table.specs.Limits.{WellFormed};
 ghost use Prim.Native.Nat.{_≤_};
 ghost use lib.ListN.{length};
@@ -12,7 +13,8 @@ use forest::agreement;
 use forest::loops;
 use forest::parts;
 use forest::spanning;
-use table::Table;
+use table::links;
+use table::ports;
 use ways::components;
 
 pub enum Agreement {
@@ -31,41 +33,56 @@ pub struct Ratios {
 }
 
 // The numbers receive the loop of 13, of each step the link's number and its direction.
-pub fn ratios_of(t: Table, numbers: &mut [u64]) -> Ratios
-    requires { ⌜ WellFormed t ⌝ }
+pub fn ratios_of(ports: &[u32], links: &[u32], numbers: &mut [u64]) -> Ratios
+    requires { ⌜ WellFormed (tableOf (now ports) (now links)) ⌝ }
     requires { ⌜ 128 ≤ length (now numbers) ⌝ }
-    ensures { λ r. ⌜ IsRatios t r (now (numbers .entry)) (now (numbers .exit)) ⌝ }
+    ensures { λ r. ⌜ IsRatios (tableOf (now (ports .entry)) (now (links .entry))) r (now (numbers .entry)) (now (numbers .exit)) ⌝ }
 {
-    let labels = components::components(t);
-    let most = parts::most_part(t);
+    let labels = components::components(ports, links);
+    let most = parts::most_part(ports, links);
     if most == 0 {
-        let weights = weights::ones(t.port_count);
+        let weights = weights::ones(ports::count(ports));
         return Ratios {
             agreement: Agreement::Agreeing,
             labels,
             weights,
         };
     }
-    by_rows(t, labels, most, numbers)
+    by_rows(ports, links, labels, most, numbers)
 }
 
 // The same by rows of exponents, where some ratio is not 1.
-fn by_rows(t: Table, labels: [usize; 64], most: u64, numbers: &mut [u64]) -> Ratios
-    requires { ⌜ WellFormed t ⌝ }
-    requires { ⌜ Components t labels ⌝ }
-    requires { ⌜ MostPart t most ⌝ }
+fn by_rows(
+    ports: &[u32],
+    links: &[u32],
+    labels: [usize; 64],
+    most: u64,
+    numbers: &mut [u64],
+) -> Ratios
+    requires { ⌜ WellFormed (tableOf (now ports) (now links)) ⌝ }
+    requires { ⌜ Components (tableOf (now ports) (now links)) labels ⌝ }
+    requires { ⌜ MostPart (tableOf (now ports) (now links)) most ⌝ }
     requires { ⌜ 128 ≤ length (now numbers) ⌝ }
-    ensures { λ r. ⌜ IsRatios t r (now (numbers .entry)) (now (numbers .exit)) ⌝ }
+    ensures { λ r. ⌜ IsRatios (tableOf (now (ports .entry)) (now (links .entry))) r (now (numbers .entry)) (now (numbers .exit)) ⌝ }
 {
     let divisors = divisors::least_divisors();
     let places = primes::all_places();
     let mut rows = [[1000u16; 168]; 64];
-    let f = spanning::spanned(t, labels, &mut rows, &divisors, &places);
+    let f = spanning::spanned(ports, links, &labels, &mut rows, &divisors, &places);
     let reach = f.reach;
     let via = f.via;
-    let k = agreement::conflict(t, &labels, &reach, &via, &rows, &divisors, &places);
-    if k < t.link_count {
-        let steps = loops::close(t, labels, reach, via, k, numbers);
+    let k = agreement::conflict(
+        ports,
+        links,
+        &labels,
+        &reach,
+        &via,
+        &rows,
+        &divisors,
+        &places,
+    );
+    if k < links::count(links) {
+        let steps = loops::close(ports, links, &labels, &reach, &via, k, numbers);
         let weights = [0u64; 64];
         return Ratios {
             agreement: Agreement::Disagreeing(steps),
@@ -73,7 +90,7 @@ fn by_rows(t: Table, labels: [usize; 64], most: u64, numbers: &mut [u64]) -> Rat
             weights,
         };
     }
-    let w = weights::weigh(t, labels, &rows, most);
+    let w = weights::weigh(ports, links, &labels, &rows, most);
     let weights = w.weights;
     if w.within {
         Ratios {

@@ -1,12 +1,14 @@
 // The weights of a table's ports, from rows that fit its links.
 ghost use Prim.Native.Nat.{_≤_};
+ghost use lib.ListN.{length};
+ghost use Rattle.table.specs.Slices.{portsOf, tableOf};
 ghost use Rattle.forest.specs.PortRows.{RowsUpTo};
 ghost use Rattle.weights.specs.LeastRows.{LabelledRows, LeastRows};
 ghost use Rattle.weights.specs.Weighed.{Weighing, Ones, IsWeighed};
 use exponents::primes;
 use exponents::product;
 use exponents::row;
-use table::Table;
+use table::ports;
 
 // Whether no weight passes 10,000, and then the weights.
 pub struct Weighed {
@@ -15,16 +17,23 @@ pub struct Weighed {
 }
 
 // No prime above `most` has an exponent in the rows, which stand for exponent zero by 1,000.
-pub fn weigh(t: Table, labels: [usize; 64], rows: &[[u16; 168]; 64], most: u64) -> Weighed
-    requires { ⌜ Weighing t labels (now rows) ⌝ }
+pub fn weigh(
+    ports: &[u32],
+    links: &[u32],
+    labels: &[usize; 64],
+    rows: &[[u16; 168]; 64],
+    most: u64,
+) -> Weighed
+    requires { ⌜ Weighing (tableOf (now ports) (now links)) (now labels) (now rows) ⌝ }
     requires { ⌜ RowsUpTo (now rows) most ⌝ }
-    ensures { λ r. ⌜ IsWeighed t r ⌝ }
+    ensures { λ r. ⌜ IsWeighed (tableOf (now (ports .entry)) (now (links .entry))) r ⌝ }
 {
-    let least = least_rows(t, labels, rows);
+    let count = ports::count(ports);
+    let least = least_rows(ports, links, labels, rows);
     let all = primes::all();
     let mut weights = [0u64; 64];
     let mut p: usize = 0;
-    while p < t.port_count {
+    while p < count {
         let c = labels[p];
         let w = product::quotient_within(rows, p, &least, c, most, &all);
         if 10000 < w {
@@ -57,13 +66,19 @@ pub fn ones(ports: usize) -> [u64; 64]
 }
 
 // For each component, at its lowest port, the least exponent of each prime among its ports' rows.
-fn least_rows(t: Table, labels: [usize; 64], rows: &[[u16; 168]; 64]) -> [[u16; 168]; 64]
-    requires { ⌜ LabelledRows t labels (now rows) ⌝ }
-    ensures { λ r. ⌜ LeastRows t labels (now (rows .entry)) (t .«port_count») r ⌝ }
+fn least_rows(
+    ports: &[u32],
+    links: &[u32],
+    labels: &[usize; 64],
+    rows: &[[u16; 168]; 64],
+) -> [[u16; 168]; 64]
+    requires { ⌜ LabelledRows (tableOf (now ports) (now links)) (now labels) (now rows) ⌝ }
+    ensures { λ r. ⌜ LeastRows (tableOf (now (ports .entry)) (now (links .entry))) (now (labels .entry)) (now (rows .entry)) (length (portsOf (now (ports .entry)))) r ⌝ }
 {
+    let count = ports::count(ports);
     let mut least = *rows;
     let mut p: usize = 0;
-    while p < t.port_count {
+    while p < count {
         let c = labels[p];
         row::take_lesser(&mut least, c, rows, p);
         p = p + 1;

@@ -1,15 +1,16 @@
 -- The link over which an end of a link was reached. Assumes nothing.
 use Prim.Native.Nat.{ℕ, _<_}
-use mathlib.Core.Path.{_≡_, refl, sym}
+use mathlib.Core.Path.{_≡_, refl, sym, ap}
 use mathlib.Core.Logic.{_≢_, _⊎_, ⊎-elim}
 use mathlib.Core.Bool.{true, false, true≢false}
 use mathlib.Core.List.{List}
 use native.Mathlib.Omega.{arith}
 use borrow.Table.Steps.{cases}
 use lib.ListN.{getD}
-use Rattle.table.specs.Limits.{WellFormed, link}
-use Rattle.table.specs.declared.Table.{Table}
-use Rattle.ways.specs.Model.{IsPort, from, to}
+use Rattle.table.specs.Limits.{WellFormed}
+use Rattle.table.specs.Table.{Table, linkCount, link}
+use Rattle.table.specs.declared.Link.{Link}
+use Rattle.ways.specs.Model.{IsPort}
 use Rattle.forest.specs.PortRows.{OverForest}
 use Rattle.forest.specs.Agreement.{IsOver, KnownToFit}
 use Rattle.forest.specs.declared.agreement.Over.{Over}
@@ -24,15 +25,15 @@ module _ {labels via : List ℕ} {p other : ℕ} where
 
 -- a link of the table, which the rows fit if a port was reached over it
 pub record KnownLink (t : Table) (rows : List (List ℕ)) (o : Over) : Type 0 where
-  pub below : o .link < t .«link_count»
+  pub below : o .link < linkCount t
   pub fits : KnownToFit (link t (o .link)) rows (o .reached)
 
-module _ {t : Table} {k : ℕ} (formed : WellFormed t) (below : k < t .«link_count») {p : ℕ} (end : (p ≡ from t k) ⊎ (p ≡ to t k)) where
+module _ {t : Table} {k : ℕ} (formed : WellFormed t) (below : k < linkCount t) {l : Link} (is : l ≡ link t k) {p : ℕ} (end : (p ≡ l .from) ⊎ (p ≡ l .to)) where
   -- an end of a link is a port
   a-port : IsPort t p
   a-port =
-      let l = formed .links k below in
-      record { below = ⊎-elim (λ e. rw e (l .from)) (λ e. rw e (l .to)) end }
+      let f = formed .links k below in
+      record { below = ⊎-elim (λ e. omega (arith, ap (λ (x : Link). x .from) is, f .from)) (λ e. omega (arith, ap (λ (x : Link). x .to) is, f .to)) end }
 
   pub end-low : p < 64
   end-low = omega (arith, a-port .below, formed .few-ports)

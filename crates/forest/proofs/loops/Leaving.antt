@@ -5,7 +5,7 @@ use mathlib.Core.Logic.{_⊎_, inl, inr, _≢_, ⊎-elim}
 use mathlib.Core.List.{List, _∷_, _++_, map, List·Memᴰ·cases-cons as cases-cons}
 use native.Mathlib.Omega.{arith}
 use lib.ListN.{getD}
-use Rattle.table.specs.declared.Table.{Table}
+use Rattle.table.specs.Table.{Table}
 use Rattle.rounds.specs.Lists.{_∈_, Distinct}
 use Rattle.ways.specs.Ways.{Step}
 use Rattle.forest.specs.Forest.{Ends, Reached}

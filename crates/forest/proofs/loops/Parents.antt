@@ -1,27 +1,17 @@
 -- The link over which a port was reached leads to its parent. Assumes nothing.
-use Prim.Native.Nat.{ℕ, _≤_, _<_}
+use Prim.Native.Nat.{ℕ, _≤_}
 use mathlib.Core.Path.{_≡_, refl, sym, ap, _∙_}
 use mathlib.Core.Logic.{_≢_, ⊎-elim}
 use mathlib.Core.List.{List}
 use native.Mathlib.Omega.{arith}
 use lib.ListN.{getD}
-use Rattle.table.specs.declared.Table.{Table}
+use Rattle.table.specs.Table.{Table}
 use Rattle.ways.specs.Model.{from, to}
 use Rattle.ways.specs.Ways.{leaves, comes}
 use Rattle.forest.specs.StepNumbers.{stepOf}
 use Rattle.forest.specs.Climb.{Climbable, Parent}
 
 module _ {t : Table} {labels reach via : List ℕ} {p : ℕ} (c : Climbable t labels reach via p) where
-  pub from-small : from t (getD via p 0) < 64
-  from-small =
-      let r = c .reached in
-      omega (arith, c .well-formed .links (getD via p 0) (r .a-link .below) .from, c .well-formed .few-ports)
-
-  pub to-small : to t (getD via p 0) < 64
-  to-small =
-      let r = c .reached in
-      omega (arith, c .well-formed .links (getD via p 0) (r .a-link .below) .to, c .well-formed .few-ports)
-
   -- the parent is another port
   other : p ≢ c .reached .parent
   other e = omega (arith, ap (λ (x : ℕ). getD reach x 0) e, c .reached .earlier)

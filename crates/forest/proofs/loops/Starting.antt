@@ -5,7 +5,7 @@ use mathlib.Core.Logic.{inl, _≢_}
 use mathlib.Core.List.{List, [], List·Memᴰ·eq-of-singleton as only, List·Memᴰ·not-nil as not-nil}
 use native.Mathlib.Omega.{arith}
 use lib.ListN.{getD}
-use Rattle.table.specs.declared.Table.{Table}
+use Rattle.table.specs.Table.{Table}
 use Rattle.rounds.specs.Lists.{none, more}
 use Rattle.ways.specs.Model.{IsPort, from, to}
 use Rattle.ways.specs.Ways.{stay, walk}

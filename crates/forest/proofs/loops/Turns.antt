@@ -6,7 +6,7 @@ use mathlib.Core.List.{List, [], _∷_, _++_, map}
 use native.Mathlib.Omega.{arith}
 use lib.ListN.{getD, length-append}
 use lib.Seq.{append-snoc}
-use Rattle.table.specs.declared.Table.{Table}
+use Rattle.table.specs.Table.{Table}
 use Rattle.rounds.specs.Lists.{_∈_, Distinct}
 use Rattle.ways.specs.Model.{IsLink}
 use Rattle.ways.specs.Ways.{Step, Way, stay, walk, leaves, comes}

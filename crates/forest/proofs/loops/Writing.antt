@@ -5,7 +5,7 @@ use mathlib.Core.Logic.{_≢_}
 use mathlib.Core.List.{List, [], _∷_, _++_}
 use native.Mathlib.Omega.{arith}
 use lib.ListN.{length, getD, length-append}
-use Rattle.table.specs.declared.Table.{Table}
+use Rattle.table.specs.Table.{Table}
 use Rattle.ways.specs.Model.{from, to}
 use Rattle.forest.specs.Loop.{Closing}
 use Rattle.forest.specs.StepNumbers.{stepOf, StepRoom, Put, none}

@@ -4,7 +4,7 @@ use mathlib.Core.Path.{_≡_}
 use mathlib.Core.Logic.{_≢_}
 use native.Mathlib.Omega.{arith}
 use borrow.Author.Count.{below-none, below-more}
-use Rattle.table.specs.declared.Table.{Table}
+use Rattle.table.specs.Table.{Table, linkCount}
 use Rattle.ways.specs.Model.{num, den}
 use Rattle.forest.specs.PortRows.{MostPart}
 
@@ -17,22 +17,22 @@ module _ {t : Table} where
   pub most-none : MostBelow t 0 0
   most-none = record { num-most = below-none _; den-most = below-none _ }
 
-  module _ {k m : ℕ} (s : MostBelow t k m) where
+  module _ {k m n d : ℕ} (s : MostBelow t k m) (above : n ≡ num t k) (below : d ≡ den t k) where
     -- the ratio is 1
-    pub most-off : num t k ≡ den t k → MostBelow t (k + 1) m
+    pub most-off : n ≡ d → MostBelow t (k + 1) m
     most-off e = record {
-      num-most = below-more _ k (s .num-most) (λ d. absurd (d e));
-      den-most = below-more _ k (s .den-most) (λ d. absurd (d e));
+      num-most = below-more _ k (s .num-most) (λ f. absurd (f (omega arith)));
+      den-most = below-more _ k (s .den-most) (λ f. absurd (f (omega arith)));
     }
 
-    pub most-on : {part most : ℕ} → part ≡ max (num t k) (den t k) → most ≡ max m part → MostBelow t (k + 1) most
+    pub most-on : {part most : ℕ} → part ≡ max n d → most ≡ max m part → MostBelow t (k + 1) most
     most-on e f = record {
       num-most = below-more _ k (λ j h d. omega (arith, s .num-most j h d)) (λ d. omega arith);
       den-most = below-more _ k (λ j h d. omega (arith, s .den-most j h d)) (λ d. omega arith);
     }
 
-    pub most-all : t .«link_count» ≤ k → MostPart t m
-    most-all h = record {
-      num-most = λ j i. s .num-most j (omega (arith, i .below));
-      den-most = λ j i. s .den-most j (omega (arith, i .below));
-    }
+  pub most-all : {k m : ℕ} → MostBelow t k m → linkCount t ≤ k → MostPart t m
+  most-all s h = record {
+    num-most = λ j i. s .num-most j (omega (arith, i .below));
+    den-most = λ j i. s .den-most j (omega (arith, i .below));
+  }

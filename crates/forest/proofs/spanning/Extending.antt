@@ -8,7 +8,7 @@ use native.Mathlib.Omega.{arith}
 use lib.ListN.{getD, set, length-set}
 use lib.Seq.{getD-set-same, getD-set-other}
 use Rattle.exponents.specs.Primes.{primeAt}
-use Rattle.table.specs.declared.Table.{Table}
+use Rattle.table.specs.Table.{Table}
 use Rattle.ways.specs.Model.{IsPort, IsLink, from, to}
 use Rattle.ways.specs.Ways.{Component}
 use Rattle.forest.specs.Forest.{Ends}

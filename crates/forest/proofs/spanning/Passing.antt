@@ -7,7 +7,7 @@ use native.Mathlib.Nat.{le-refl}
 use native.Mathlib.Omega.{arith}
 use borrow.Author.Count.{below-more}
 use Rattle.table.specs.Limits.{WellFormed, PartFits}
-use Rattle.table.specs.declared.Table.{Table}
+use Rattle.table.specs.Table.{Table, linkCount}
 use Rattle.ways.specs.Model.{IsLink, from, to, num, den}
 use Rattle.forest.specs.Spreading.{Spreading, Followable, Unchanged, Followed, Closed, Passed}
 use Rattle.forest.specs.declared.spanning.Forest.{Forest}
@@ -27,6 +27,13 @@ module _ {f f′ : Forest} {rows rows′ : List (List ℕ)} {p q k times by : �
   followed-spreading : {t : Table} → LinkEnds t k p q times by → Spreading t f rows → Spreading t f′ rows′
   followed-spreading l s = ⊎-elim (λ e. extended-spreading s l e) (λ u. rw (u .same, u .rows-same) s) (x .case)
 
+-- the ends and parts of link k
+pub record Named (t : Table) (k u v n d : ℕ) : Type 0 where
+  pub sender : u ≡ from t k
+  pub receiver : v ≡ to t k
+  pub above : n ≡ num t k
+  pub below : d ≡ den t k
+
 module _ {t : Table} where
   pub passed-none : {f : Forest} {rows : List (List ℕ)} → Spreading t f rows → Passed t 0 f f rows
   passed-none s = record {
@@ -36,15 +43,15 @@ module _ {t : Table} where
     closed = λ _. record { along = λ k h. absurd (omega arith); against = λ k h. absurd (omega arith) };
   }
 
-  pub passed-all : {k : ℕ} {f f′ : Forest} {rows : List (List ℕ)} → Passed t k f f′ rows → t .«link_count» ≤ k → Passed t (t .«link_count») f f′ rows
-  passed-all {k} p h = let e : k ≡ t .«link_count» = omega arith in rw e at p
+  pub passed-all : {k : ℕ} {f f′ : Forest} {rows : List (List ℕ)} → Passed t k f f′ rows → linkCount t ≤ k → Passed t (linkCount t) f f′ rows
+  passed-all {k} p h = let e : k ≡ linkCount t = omega arith in rw e at p
 
-  module _ (formed : WellFormed t) {k : ℕ} (below : k < t .«link_count») where
+  module _ (formed : WellFormed t) {k u v n d : ℕ} (below : k < linkCount t) (ends : Named t k u v n d) where
     a-link : IsLink t k
     a-link = record { below = below }
 
-    forth : LinkEnds t k (from t k) (to t k) (den t k) (num t k)
-    forth = record {
+    forth : LinkEnds t k u v d n
+    forth = rw (ends .sender, ends .receiver, ends .above, ends .below) (record {
       a-link = a-link;
       one = record { below = formed .links k below .from };
       one-below = omega (arith, formed .links k below .from, formed .few-ports);
@@ -53,10 +60,10 @@ module _ {t : Table} where
       times-most = λ m most d. most .den-most k a-link (λ e. d (sym e));
       by-most = λ m most d. most .num-most k a-link (λ e. d (sym e));
       fits = λ rows e. record { fits = e };
-    }
+    })
 
-    back : LinkEnds t k (to t k) (from t k) (num t k) (den t k)
-    back = record {
+    back : LinkEnds t k v u n d
+    back = rw (ends .sender, ends .receiver, ends .above, ends .below) (record {
       a-link = a-link;
       one = record { below = formed .links k below .to };
       one-below = omega (arith, formed .links k below .to, formed .few-ports);
@@ -65,7 +72,7 @@ module _ {t : Table} where
       times-most = λ m most. most .num-most k a-link;
       by-most = λ m most. most .den-most k a-link;
       fits = λ rows e. record { fits = sym e };
-    }
+    })
 
     module _ {f : Forest} {rows : List (List ℕ)} (s : Spreading t f rows) where
       followable : {p q times by : ℕ} → LinkEnds t k p q times by → PartFits times → PartFits by → Followable f rows p q times by
@@ -80,17 +87,17 @@ module _ {t : Table} where
         };
       }
 
-      pub follow-forth : Followable f rows (from t k) (to t k) (den t k) (num t k)
-      follow-forth = followable forth (formed .links k below .den) (formed .links k below .num)
+      pub follow-forth : Followable f rows u v d n
+      follow-forth = followable forth (rw (ends .below) (formed .links k below .den)) (rw (ends .above) (formed .links k below .num))
 
-      pub follow-back : Followable f rows (to t k) (from t k) (num t k) (den t k)
-      follow-back = followable back (formed .links k below .num) (formed .links k below .den)
+      pub follow-back : Followable f rows v u n d
+      follow-back = followable back (rw (ends .above) (formed .links k below .num)) (rw (ends .below) (formed .links k below .den))
 
-    module _ {f f₁ : Forest} {rows rows₁ : List (List ℕ)} (x : Followed f rows (from t k) (to t k) k (den t k) (num t k) f₁ rows₁) where
+    module _ {f f₁ : Forest} {rows rows₁ : List (List ℕ)} (x : Followed f rows u v k d n f₁ rows₁) where
       pub spreading-forth : Spreading t f rows → Spreading t f₁ rows₁
       spreading-forth s = followed-spreading x forth s
 
-      module _ {f₂ : Forest} {rows₂ : List (List ℕ)} (y : Followed f₁ rows₁ (to t k) (from t k) k (num t k) (den t k) f₂ rows₂) where
+      module _ {f₂ : Forest} {rows₂ : List (List ℕ)} (y : Followed f₁ rows₁ v u k n d f₂ rows₂) where
         -- neither way added a port
         closed-on : {f₀ : Forest} → Passed t k f₀ f rows → f₂ .count ≡ f₀ .count → Closed t (k + 1) f₂
         closed-on {f₀} p e =
@@ -98,8 +105,8 @@ module _ {t : Table} where
             let a = followed-same x (omega (arith, followed-grown x, followed-grown y, p .grown)) in
             let c = p .closed (omega (arith, followed-grown x, followed-grown y, p .grown)) in
             rw (b .same, a .same) (record {
-              along = below-more _ k (c .along) (a .done);
-              against = below-more _ k (c .against) (rw (a .same) at (b .done));
+              along = below-more _ k (c .along) (rw (ends .sender, ends .receiver) at (a .done));
+              against = below-more _ k (c .against) (rw (a .same, ends .sender, ends .receiver) at (b .done));
             })
 
         pub passed-on : {f₀ : Forest} → Passed t k f₀ f rows → Passed t (k + 1) f₀ f₂ rows₂

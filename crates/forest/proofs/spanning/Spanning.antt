@@ -5,7 +5,7 @@ use mathlib.Core.Logic.{_≢_, ⊎-elim}
 use mathlib.Core.List.{List}
 use native.Mathlib.Omega.{arith}
 use lib.ListN.{getD}
-use Rattle.table.specs.declared.Table.{Table}
+use Rattle.table.specs.Table.{Table, linkCount}
 use Rattle.ways.specs.Model.{IsPort, IsLink, from, to}
 use Rattle.ways.specs.Ways.{Step, Way, stay, walk, Joined}
 use Rattle.ways.specs.WayLaws.{linked, joined-sym, joined-component, component-unique}
@@ -26,7 +26,7 @@ ends-joined : (t : Table) (k p q : ℕ) → IsLink t k → Ends t k p q → Join
 ends-joined t k p q i e =
     ⊎-elim (λ x. rw (x .0, x .1) at (joined-sym (linked i))) (λ x. rw (x .0, x .1) at (linked i)) e
 
-module _ {t : Table} {f : Forest} (closed : Closed t (t .«link_count») f) where
+module _ {t : Table} {f : Forest} (closed : Closed t (linkCount t) f) where
   step-reached : (k : ℕ) (b : Bool) → IsLink t k → 0 < getD (f .reach) (cond b (from t k) (to t k)) 0
       → 0 < getD (f .reach) (cond b (to t k) (from t k)) 0
   step-reached k true i h = closed .along k (i .below) h

@@ -5,7 +5,7 @@ use mathlib.Core.List.{List, []}
 use native.Mathlib.Omega.{arith}
 use lib.ListN.{getD, replicate, length-replicate, getD-replicate}
 use Rattle.table.specs.Limits.{WellFormed}
-use Rattle.table.specs.declared.Table.{Table}
+use Rattle.table.specs.Table.{Table, portCount}
 use Rattle.ways.specs.Model.{IsPort}
 use Rattle.ways.specs.Ways.{Component}
 use Rattle.ways.specs.WayLaws.{component-unique, joined-component, way-port}
@@ -29,10 +29,10 @@ zero-row = record {
 }
 
 module _ {t : Table} (formed : WellFormed t) where
-  pub start-rootable : Rootable (t .«port_count»)
+  pub start-rootable : Rootable (portCount t)
   start-rootable = record { few = formed .few-ports }
 
-  module _ {labels : List ℕ} {f : Forest} (components : Components t labels) (r : Rooted (t .«port_count») labels f) where
+  module _ {labels : List ℕ} {f : Forest} (components : Components t labels) (r : Rooted (portCount t) labels f) where
     own-label : {p c : ℕ} → IsPort t p → Component t p c → 0 < getD (f .reach) c 0
     own-label {c = c} i m =
         let port : IsPort t c = way-port formed (m .joined .way) i in

@@ -1,20 +1,18 @@
 -- What each way through the analysis comes to. Assumes nothing.
 use Prim.Native.Nat.{ℕ, zero, suc, _+_, _*_, _≤_, _<_}
-use mathlib.Core.Path.{_≡_, refl, sym, ap, _∙_}
+use mathlib.Core.Path.{_≡_, refl, ap, _∙_}
 use mathlib.Core.Logic.{_≢_}
 use mathlib.Core.Bool.{cond}
 use mathlib.Core.List.{List, []}
 use native.Mathlib.Omega.{arith}
 use lib.Dec.{eqb}
 use native.Mathlib.Nat.{pos-of-ne-zero}
-use lib.ListN.{length, getD, take, drop, length-append, length-drop}
+use lib.ListN.{length, getD, take, drop}
 use lib.Seq.{drop-cons}
 use Rattle.records.specs.Answer.{Written, loopAnswer}
-use Rattle.records.specs.WrittenLaws.{written-front}
 use Rattle.table.specs.Limits.{WellFormed}
 use Rattle.table.specs.Reading.{readTable}
-use Rattle.table.specs.declared.Table.{Table}
-use Rattle.table.specs.declared.reading.Reading.{Reading}
+use Rattle.table.specs.Table.{Table, portCount}
 use Rattle.forest.specs.Loop.{stepsFrom}
 use Rattle.weights.specs.Weighed.{Overweight}
 use Rattle.weights.specs.Ratios.{LoopNumbers, numberOf, IsRatios}
@@ -22,11 +20,9 @@ use Rattle.weights.specs.declared.ratios.Ratios.{Ratios}
 use Rattle.weights.specs.declared.ratios.Agreement.the-variants.{Agreeing, Disagreeing, Passing}
 use Rattle.answers.specs.Answers.{refused, disagreeing, overweight, blocked, consistent, loopNumbers, records, leastRoom}
 use Rattle.answers.specs.Room.{fits-room}
-use Rattle.constraints.specs.Slices.{limitsOf, linksOf, linkCount}
-use Rattle.constraints.specs.LinkLaws.{link-count}
-use Rattle.constraints.specs.Searched.{Labelled, InTable, SomeTable, WorkRoom}
+use Rattle.constraints.specs.Arranged.{Labelled}
 use Rattle.graph.specs.Analysis.{Decided, Analysed}
-use Rattle.graph.specs.Timed.{TimedOrShown, AllTimed, TableRoom}
+use Rattle.graph.specs.Timed.{TimedOrShown, TableRoom}
 use Rattle.timings.specs.Timings.{TableNumbers, timingOf}
 use Rattle.timings.specs.Sizes.{size-is, size-small}
 use Rattle.graph.specs.declared.analysis.Outcome.{Outcome}
@@ -89,48 +85,19 @@ pub decided-over : {t : Table} (before : List ℕ) → Overweight t → Decided 
 decided-over before o = record { answer = overweight; right = o; number-is = refl; records-are = written-none before; fits = tt }
 
 -- ---- the room for the work on a table
-pub table-room : {t : Table} {links numbers edges rows costs : List ℕ} {n m : ℕ} → t .«port_count» ≤ n → t .«link_count» ≤ m → 7 * m ≡ length links
+pub table-room : {ports links : ℕ} {owners numbers edges rows costs : List ℕ} (n m : ℕ) → ports ≤ n → links ≤ m → m ≡ length owners
     → m ≡ length numbers
     → 6 * m ≡ length edges
     → 64 * n + 64 ≡ length rows
     → 4 * m ≡ length costs
-    → TableRoom t links numbers edges rows costs
-table-room few-ports few-links of-links of-numbers of-edges of-rows of-costs = record {
-  of-links = omega arith;
+    → TableRoom ports links owners numbers edges rows costs
+table-room n m few-ports few-links of-owners of-numbers of-edges of-rows of-costs = record {
+  of-owners = omega arith;
   of-numbers = omega arith;
   of-edges = omega arith;
   of-rows = omega arith;
   of-costs = omega arith;
 }
-
--- ---- the limits and links of the table
-module _ {t : Table} {labels weights limits₀ limits links₀ links : List ℕ} {n size : ℕ} (l : Labelled t labels weights)
-    (of-limits : Written (limitsOf t weights (t .«port_count»)) limits₀ limits n) (long : length limits₀ ≡ 128)
-    (of-links : Written (linksOf t labels weights (t .«link_count»)) links₀ links size) where
-  in-table : InTable t labels weights (t .«port_count») limits (take size links)
-  in-table = record {
-    labelled = l;
-    total-is = refl;
-    has-limits = record {
-      rest = drop (length (limitsOf t weights (t .«port_count»))) limits₀;
-      are = of-limits .contents;
-      long = rw (of-limits .contents) (simp (length-append, length-drop) (omega arith));
-    };
-    has-links = record { are = written-front of-links };
-  }
-
-  pub some-table : SomeTable labels (t .«port_count») limits (take size links)
-  some-table = record { table = t; weights = weights; in-table = in-table }
-
-  pub work-room : {numbers edges rows costs starts : List ℕ} → TableRoom t links₀ numbers edges rows costs → length starts ≡ 64
-      → WorkRoom (t .«port_count») (linkCount (take size links)) numbers edges rows costs starts
-  work-room r of-starts =
-      rw (link-count (in-table .has-links))
-      (record { of-numbers = r .of-numbers; of-edges = r .of-edges; of-rows = r .of-rows; of-costs = r .of-costs; of-starts = of-starts })
-
-  pub timed-here : {timing before after : List ℕ} {r : ℕ} → AllTimed labels (t .«port_count») limits (take size links) timing before after r
-      → TimedOrShown t weights timing before after (t .«port_count») r
-  timed-here h = h .of t weights in-table
 
 -- ---- number 15
 pub decided-shown : {t : Table} {weights timing before after : List ℕ} {n r : ℕ} → TimedOrShown t weights timing before after n r → r ≢ 0
@@ -147,7 +114,7 @@ decided-shown h some =
 
 -- ---- number 0
 module _ {t : Table} {labels weights timing before middle : List ℕ} {r : ℕ} (l : Labelled t labels weights)
-    (h : TimedOrShown t weights timing before middle (t .«port_count») r) (none : r ≡ 0) where
+    (h : TimedOrShown t weights timing before middle (portCount t) r) (none : r ≡ 0) where
   pub all-numbers : TableNumbers t weights timing
   all-numbers = timed-numbers l (h .timed none)
 
@@ -192,14 +159,14 @@ analysed-faulty s before n e f h = record {
   fits = tt;
 }
 
-pub analysed-decided : {s before after : List ℕ} {reading : Reading} {r : Outcome} → reading ≡ readTable s → reading .number ≡ 0 → leastRoom ≤ length before
-    → Decided (reading .table) before after r
+pub analysed-decided : {s before after : List ℕ} {t : Table} {r : Outcome} → t ≡ readTable s .table → readTable s .number ≡ 0 → leastRoom ≤ length before
+    → Decided t before after r
     → Analysed s before after r
-analysed-decided {s} {reading = reading} e z h d = record {
+analysed-decided e z h d = record {
   answer = d .answer;
   right = record {
     short = λ k. absurd (omega arith);
-    faulty = λ k f. absurd (f (sym (ap (λ (x : Reading). x .number) e) ∙ z));
+    faulty = λ k f. absurd (f z);
     right = λ k g. rw (← e) (d .right);
   };
   number-is = d .number-is;

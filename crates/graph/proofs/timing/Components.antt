@@ -6,16 +6,20 @@ use mathlib.Core.List.{List}
 use native.Mathlib.Nat.{eq-or-lt-of-le}
 use native.Mathlib.Omega.{arith}
 use lib.ListN.{length, getD}
+use Rattle.fraction.specs.declared.Fraction.{Fraction}
+use Rattle.rounds.specs.Lists.{_∈_}
 use Rattle.rounds.specs.Graph.{LeastStarts}
 use Rattle.table.specs.Limits.{WellFormed}
-use Rattle.table.specs.declared.Table.{Table}
+use Rattle.table.specs.Table.{Table, portCount}
 use Rattle.ways.specs.Model.{IsPort, from, to}
 use Rattle.ways.specs.WayLaws.{component-unique}
 use Rattle.period.specs.declared.search.Search.{Search}
 use Rattle.answers.specs.Constraints.{IsBuffer, PortIn, graphIn}
 use Rattle.answers.specs.ConstraintLaws.{from-in, to-in, names-component}
 use Rattle.answers.specs.Answers.{IsComponent, SmallWeights, NoPeriod, Size, Consistent}
-use Rattle.constraints.specs.Searched.{Labelled, connectionsOf, floorOf, PeriodIn, BlockIn}
+use Rattle.constraints.specs.Arranged.{Labelled, SlicesIn}
+use Rattle.constraints.specs.SliceLaws.{port-of, of-port}
+use Rattle.constraints.specs.Searched.{connectionsOf, floorOf, PeriodIn, BlockIn}
 use Rattle.graph.specs.Analysis.{FieldsFit}
 use Rattle.timings.specs.Timings.{bAt, startAt, TableNumbers, timingOf}
 use Rattle.graph.specs.Timed.{Kept, TimedIn, TimedBelow}
@@ -49,24 +53,26 @@ module _ {t : Table} {labels weights : List ℕ} (l : Labelled t labels weights)
         (eq-or-lt-of-le (omega arith));
   }
 
-  module _ {c : ℕ} {starts timing timing′ : List ℕ} (r : Search) (k : Kept labels (t .«port_count») c (r .period) starts timing timing′) where
-    kept-timed : PeriodIn t weights c r starts → TimedIn t weights timing′ c
+  module _ {c : ℕ} {members limits numbers edges starts timing timing′ : List ℕ} {a-b : Fraction} (s : SlicesIn t labels weights c members limits numbers edges)
+      (k : Kept members a-b starts timing timing′) where
+    kept-timed : PeriodIn t weights c a-b starts → TimedIn t weights timing′ c
     kept-timed h =
-        let start : (p : ℕ) → PortIn t c p → startAt timing′ p ≡ getD starts p 0 = λ p i. k .kept-start p (i .a-port .below) (label-of i) in
+        let member : (p : ℕ) → PortIn t c p → p ∈ members = λ p i. of-port l s (i .a-port) (i .component) in
+        let start : (p : ℕ) → PortIn t c p → startAt timing′ p ≡ getD starts p 0 = λ p i. k .kept-start p (member p i) in
         record {
-          a = r .period .num;
-          b = r .period .den;
+          a = a-b .num;
+          b = a-b .den;
           period = h .period;
           least = least-same (λ p. getD weights p 0) (l .well-formed) (λ p i. sym (start p i)) (h .least);
           small = h .small;
-          a-is = λ p i. k .kept-a p (i .a-port .below) (label-of i);
-          b-is = λ p i. k .kept-b p (i .a-port .below) (label-of i);
-          small-starts = λ p i. omega (arith, start p i, h .small-starts p);
+          a-is = λ p i. k .kept-a p (member p i);
+          b-is = λ p i. k .kept-b p (member p i);
+          small-starts = λ p i. omega (arith, start p i, h .small-starts p i);
         }
 
     other-timed : {d : ℕ} → d ≢ c → TimedIn t weights timing d → TimedIn t weights timing′ d
     other-timed {d} f h =
-        let other : (p : ℕ) → PortIn t d p → getD labels p 0 ≢ c = λ p i e. f (sym (label-of i) ∙ e) in
+        let other : (p : ℕ) → PortIn t d p → ¬ (p ∈ members) = λ p i m. f (component-unique (i .component) (port-of l s m .component)) in
         record {
           a = h .a;
           b = h .b;
@@ -78,7 +84,7 @@ module _ {t : Table} {labels weights : List ℕ} (l : Labelled t labels weights)
           small-starts = λ p i. omega (arith, k .other-start p (other p i), h .small-starts p i);
         }
 
-    pub timed-next : PeriodIn t weights c r starts → TimedBelow t weights timing c → TimedBelow t weights timing′ (c + 1)
+    pub timed-next : PeriodIn t weights c a-b starts → TimedBelow t weights timing c → TimedBelow t weights timing′ (c + 1)
     timed-next p h = record {
       long = k .same-length ∙ h .long;
       each = λ d i m. ⊎-elim
@@ -104,7 +110,7 @@ module _ {t : Table} {labels weights : List ℕ} (l : Labelled t labels weights)
   }
 
   -- ---- every component has its period
-  module _ {timing : List ℕ} (h : TimedBelow t weights timing (t .«port_count»)) where
+  module _ {timing : List ℕ} (h : TimedBelow t weights timing (portCount t)) where
     timed-at : (p : ℕ) → IsPort t p → TimedIn t weights timing (getD labels p 0)
     timed-at p i =
         let c = names-component (l .well-formed) i (l .components .each p i) in

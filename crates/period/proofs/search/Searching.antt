@@ -18,7 +18,7 @@ use Rattle.rounds.specs.Starts.{Stopped, starts as startsAfter, row}
 use Rattle.rounds.specs.Back.{FoundCycle, edgesOf}
 use Rattle.period.specs.Prices.{pricesOf}
 use Rattle.period.specs.PricesLaws.{prices-small, prices-enclosed, prices-cycle, prices-settled, cycle-edges}
-use Rattle.period.specs.Greatest.{Limited, GreatestLimit}
+use Rattle.period.specs.Greatest.{GreatestLimit}
 use Rattle.period.specs.Sums.{Summing, SumsOf}
 use Rattle.period.specs.Search.{WithinSteps, Room, RoundsRun, mostStart, Ends}
 use Rattle.period.specs.Try.{Trying}
@@ -37,19 +37,6 @@ small-edges k = record {
   ticks-back = k .small-edges .ticks-back;
   events-forward = k .small-edges .events-forward;
   events-back = k .small-edges .events-back;
-}
-
-pub limited : {ports limits edges : List ℕ} → Component ports limits edges → Limited ports limits
-limited k = record {
-  some-port = k .some-port;
-  low-ports = k .low-ports;
-  all-limits = k .all-limits;
-  small = record {
-    num-some = k .small-limits .num-some;
-    num-most = k .small-limits .num-most;
-    den-some = k .small-limits .den-some;
-    den-most = k .small-limits .den-most;
-  };
 }
 
 -- the buffers have room, and a/b is a limit that no smaller one serves

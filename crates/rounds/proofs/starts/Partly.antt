@@ -1,15 +1,16 @@
 -- A round that is under way: the first k edges have been relaxed. Assumes nothing.
-use Prim.Native.Nat.{ℕ, _+_, _≤_, _<_}
+use Prim.Native.Nat.{ℕ, _+_, _*_, _≤_, _<_}
 use mathlib.Core.Path.{_≡_, sym, ap, _∙_}
 use mathlib.Core.List.{List}
 use native.Mathlib.Omega.{arith}
 use native.Mathlib.Numerals.{add-one}
 use lib.ListN.{length, getD}
 use lib.Seq.{ext-getD}
-use Rattle.rounds.specs.Costs.{count, fromOf, toOf}
+use Rattle.rounds.specs.Costs.{count, fromOf, toOf, mostCost}
 use Rattle.rounds.specs.Starts.{asked, raise, relaxed, roundOf}
 use Rattle.rounds.specs.StartsLaws.{raise-length, relaxed-round}
 use Rattle.rounds.specs.Relax.{Ready, Low, Grown, Round}
+use Rattle.rounds.proofs.starts.Relaxed.{raise-most}
 
 -- t is what the first k edges make of s
 pub record Partly (cs s : List ℕ) (k : ℕ) (t : List ℕ) : Type 0 where
@@ -17,10 +18,11 @@ pub record Partly (cs s : List ℕ) (k : ℕ) (t : List ℕ) : Type 0 where
   pub within : k ≤ count cs
   pub long : length t ≡ 64
   pub made : t ≡ relaxed cs s k
+  pub starts : (j : ℕ) → getD t j 0 ≤ 65 * mostCost
 
 pub partly-none : {cs s t : List ℕ} → Low cs s → t ≡ s → Partly cs s 0 t
 unfolding relaxed
-partly-none w e = record { low = w; within = omega arith; long = ap length e ∙ w .ports; made = e }
+partly-none w e = record { low = w; within = omega arith; long = ap length e ∙ w .ports; made = e; starts = λ j. rw e (omega (arith, w .starts j)) }
 
 module _ {cs s : List ℕ} {k : ℕ} {t : List ℕ} (p : Partly cs s k t) where
   -- the next edge can be relaxed
@@ -30,6 +32,7 @@ module _ {cs s : List ℕ} {k : ℕ} {t : List ℕ} (p : Partly cs s k t) where
     from-in = omega (arith, p .low .edges .from-in k l);
     to-in = omega (arith, p .low .edges .to-in k l);
     reach = omega (arith, p .low .starts (fromOf cs k), p .low .edges .gains k l);
+    least = omega (arith, p .starts (toOf cs k), p .low .edges .losses k l);
   }
 
   pub partly-on : {t′ : List ℕ} → k < count cs → t′ ≡ raise t (toOf cs k) (asked cs s k) → Partly cs s (k + 1) t′
@@ -39,6 +42,8 @@ module _ {cs s : List ℕ} {k : ℕ} {t : List ℕ} (p : Partly cs s k t) where
     within = omega arith;
     long = ap length e ∙ raise-length t (toOf cs k) (asked cs s k) ∙ p .long;
     made = rw (add-one, ← p .made) e;
+    starts = λ j. rw e (raise-most t (toOf cs k) (asked cs s k) (omega (arith, p .low .edges .to-in k l, p .long)) (p .starts)
+        (omega (arith, p .low .starts (fromOf cs k), p .low .edges .gains k l)) j);
   }
 
   pub partly-all : {j : ℕ} → count cs ≤ k → Grown s t j → Round cs s t j

@@ -1,120 +1,148 @@
--- What a turn of the reading loop keeps: reading on from here gives what reading the whole gives. Assumes nothing.
-use Prim.Native.Nat.{ℕ, suc, _+_, _-_, _≤_, _<_}
-use mathlib.Core.Path.{_≡_, ap}
-use mathlib.Core.Logic.{_≢_}
-use mathlib.Core.List.{List, [], _∷_, _++_}
+-- What a turn of the reading loop keeps: what fills the slices from here fills them from the start. Assumes nothing.
+use Prim.Native.Nat.{ℕ, suc, _+_, _-_, _*_, _≤_, _<_}
+use mathlib.Core.Path.{_≡_, refl, _∙_}
+use mathlib.Core.List.{List, [], _∷_}
 use native.Mathlib.Omega.{arith}
-use lib.ListN.{length, set}
-use borrow.Author.Tests.{eq-eqb, ne-eqb}
-use Rattle.table.specs.Snoc.{length-snoc, pad-snoc}
-use Rattle.table.specs.Limits.{noPort, noLink}
+use native.Mathlib.Nat.{sub-zero}
+use native.Mathlib.Numerals.{add-one}
+use lib.ListN.{length}
+use lib.Seq.{sets, length-sets}
+use Rattle.table.specs.Slices.{portNumbers, linkNumbers}
+use Rattle.table.specs.Limits.{mostPorts, PortFits, LinkFits}
 use Rattle.table.specs.Record.{recordAt}
 use Rattle.table.specs.Facts.{Accepted, accepted}
-use Rattle.table.specs.Reading.{tableOf, beforeNext, after, readFrom, readTable}
+use Rattle.table.specs.Reading.{withPort, withLink, after, readFrom, readOn}
+use Rattle.table.specs.Filled.{moved, Room, Filled}
 use Rattle.table.specs.declared.Port.{Port}
 use Rattle.table.specs.declared.Link.{Link}
-use Rattle.table.specs.declared.Table.{Table}
 use Rattle.table.specs.declared.record.Before.{Before}
 use Rattle.table.specs.declared.record.Read.{Read}
 use Rattle.table.specs.declared.record.Read.the-variants.{PortRecord, LinkRecord, Refused, End}
-use Rattle.table.specs.declared.reading.Reading.{Reading}
+use Rattle.table.specs.declared.reading.Counts.{Counts}
+use Rattle.table.proofs.reading.Filling.{filled-nothing, filled-port, filled-link}
 
--- the ports and links read so far, and the bound that is left
-pub record Going (s : List ℕ) (t : Table) (at : ℕ) : Type 0 where
-  pub ps : List Port
-  pub ls : List Link
-  pub left : ℕ
-  pub table : t ≡ tableOf ps ls
-  pub same : readFrom (suc left) s at ps ls ≡ readTable s
-  pub enough : length s ≤ left + at
-  pub inside : at ≤ length s
+module _ (s ports₀ links₀ : List ℕ) (by : ℕ) (b₀ : Before) where
+  -- `left` is the bound that is left
+  pub record Going (ports links : List ℕ) (b : Before) (at : ℕ) : Type 0 where
+    pub left : ℕ
+    pub on : (ports′ links′ : List ℕ) (c : Counts) → Filled b (readFrom (suc left) s at b) ports links ports′ links′ c
+        → Filled b₀ (readOn s b₀) ports₀ links₀ ports′ links′ c
+    pub enough : length s ≤ left + at
+    pub inside : at ≤ length s
+    pub room : Room (length s - at) b (length ports) (length links)
+    pub apart : by ≡ b .ports - b .named
+    pub long-ports : length ports ≡ length ports₀
+    pub long-links : length links ≡ length links₀
 
-pub started : (s : List ℕ) (t : Table) → t ≡ tableOf [] [] → Going s t 0
-unfolding readTable
-started s t e = record {
-  ps = [];
-  ls = [];
+  -- the same with the next record read
+  pub record Turn (ports links : List ℕ) (b : Before) (at : ℕ) (r : Read) : Type 0 where
+    pub going : Going ports links b at
+    pub told : Accepted s at b r
+    pub then : (ports′ links′ : List ℕ) (c : Counts) → Filled b (after (readFrom (going .left) s) b r) ports links ports′ links′ c
+        → Filled b₀ (readOn s b₀) ports₀ links₀ ports′ links′ c
+
+pub started : (s ports links : List ℕ) {by : ℕ} {b : Before} → Room (length s) b (length ports) (length links) → by ≡ b .ports - b .named
+    → Going s ports links by b ports links b 0
+unfolding readOn
+started s ports links room e = record {
   left = length s;
-  table = e;
-  same = ap (λ (n : ℕ). readFrom n s 0 [] []) (omega arith);
+  on = λ _ _ _ f. rw (add-one (length s)) f;
   enough = omega arith;
   inside = omega arith;
+  room = rw (sub-zero (length s)) room;
+  apart = e;
+  long-ports = refl;
+  long-links = refl;
 }
-
--- the same with the next record read
-pub record Turn (s : List ℕ) (t : Table) (at : ℕ) (r : Read) : Type 0 where
-  pub going : Going s t at
-  pub told : Accepted s at (beforeNext (t .«port_count») (t .«link_count»)) r
-  pub on : after (readFrom (going .left) s) (going .ps) (going .ls) r ≡ readTable s
-
-module _ {s : List ℕ} {t : Table} {at : ℕ} (g : Going s t at) where
-  count-ports : t .«port_count» ≡ length (g .ps)
-  unfolding tableOf
-  count-ports = ap (λ (u : Table). u .«port_count») (g .table)
-
-  count-links : t .«link_count» ≡ length (g .ls)
-  unfolding tableOf
-  count-links = ap (λ (u : Table). u .«link_count») (g .table)
-
-  pub turn : {b : Before} {r : Read} → b ≡ beforeNext (t .«port_count») (t .«link_count») → r ≡ recordAt s at b → Turn s t at r
-  unfolding readFrom
-  turn e q = record {
-    going = g;
-    told = rw (q, e) (accepted s at (beforeNext (t .«port_count») (t .«link_count»)));
-    on = rw (q, e, count-ports, count-links) (g .same);
-  }
-
-pub turn-at : {s : List ℕ} {t : Table} {at : ℕ} {r r' : Read} → Turn s t at r → r ≡ r' → Turn s t at r'
-turn-at w e = rw e at w
 
 -- a bound that is not used up yet
 some-left : (n size at : ℕ) → size ≤ n + at → at < size → n ≡ suc (n - 1)
 some-left n size at h k = omega arith
 
-module _ {s : List ℕ} {t : Table} {at : ℕ} where
-  pub port-read : {p : Port} {next : ℕ} → Turn s t at (PortRecord p next)
-      → Going s (record { ports = set (t .ports) (t .«port_count») p; «port_count» = t .«port_count» + 1; links = t .links; «link_count» = t .«link_count» }) next
-  unfolding tableOf beforeNext
-  port-read {p} w =
+module _ {s ports₀ links₀ : List ℕ} {by : ℕ} {b₀ : Before} {ports links : List ℕ} {b : Before} {at : ℕ} where
+  pub turn : {r r′ : Read} → Going s ports₀ links₀ by b₀ ports links b at → r ≡ recordAt s at b → r ≡ r′
+      → Turn s ports₀ links₀ by b₀ ports links b at r′
+  unfolding readFrom
+  turn g q e = rw (← e, q) (record { going = g; told = accepted s at b; then = g .on })
+
+  -- the slices have room for the record, and what is stored is within the limits
+  pub port-fits : {p : Port} {next : ℕ} → Turn s ports₀ links₀ by b₀ ports links b at (PortRecord p next)
+      → (2 * b .ports + 2 ≤ length ports) × PortFits p
+  port-fits w = (omega (arith, w .going .room, w .told), w .told .fits)
+
+  pub link-fits : {l l′ : Link} {next : ℕ} → Turn s ports₀ links₀ by b₀ ports links b at (LinkRecord l next) → l′ ≡ moved by l
+      → (9 * b .links + 9 ≤ length links) × LinkFits mostPorts l′
+  link-fits w d =
+      let f = w .told .fits in
+      let g = w .going in (
+        omega (arith, g .room, w .told),
+        rw d (record {
+          from = omega (arith, f .from, g .room, g .apart);
+          to = omega (arith, f .to, g .room, g .apart);
+          num = f .num;
+          den = f .den;
+          ticks-forward = f .ticks-forward;
+          ticks-back = f .ticks-back;
+          events-forward = f .events-forward;
+          events-back = f .events-back;
+        }),
+      )
+
+  pub port-read : {p : Port} {next : ℕ} {ports′ : List ℕ} {b′ : Before} → Turn s ports₀ links₀ by b₀ ports links b at (PortRecord p next)
+      → ports′ ≡ sets ports (2 * b .ports) (portNumbers (p ∷ []))
+      → b′ ≡ withPort b
+      → Going s ports₀ links₀ by b₀ ports′ links b′ next
+  port-read {p} w stored e =
       let g = w .going in
-      let room : length (g .ps) < 64 = omega (arith, count-ports g, w .told .room) in
       let left : g .left ≡ suc (g .left - 1) = some-left (g .left) (length s) at (g .enough) (omega (arith, w .told .onward)) in
-      record {
-        ps = g .ps ++ (p ∷ []);
-        ls = g .ls;
+      let long = length-sets ports (2 * b .ports) (portNumbers (p ∷ [])) in
+      rw (stored, e) (record {
         left = g .left - 1;
-        table = rw (g .table, pad-snoc 64 noPort (g .ps) p room, length-snoc (g .ps) p);
-        same = rw (← left) (w .on);
+        on = λ ps ls c f. w .then ps ls c (rw left (filled-port p f));
         enough = omega (arith, w .told .onward, left, g .enough);
         inside = w .told .onward .within;
-      }
+        room = record {
+          few-ports = omega (arith, w .told .room);
+          few-links = g .room .few-links;
+          own = omega (arith, g .room .own);
+          port-room = omega (arith, g .room .port-room, w .told .onward, long);
+          link-room = omega (arith, g .room .link-room, w .told .onward);
+        };
+        apart = omega (arith, g .apart);
+        long-ports = long ∙ g .long-ports;
+        long-links = g .long-links;
+      })
 
-  pub link-read : {l : Link} {next : ℕ} → Turn s t at (LinkRecord l next)
-      → Going s (record { ports = t .ports; «port_count» = t .«port_count»; links = set (t .links) (t .«link_count») l; «link_count» = t .«link_count» + 1 }) next
-  unfolding tableOf beforeNext
-  link-read {l} w =
+  pub link-read : {l l′ : Link} {next : ℕ} {links′ : List ℕ} {b′ : Before} → Turn s ports₀ links₀ by b₀ ports links b at (LinkRecord l next)
+      → l′ ≡ moved by l
+      → links′ ≡ sets links (9 * b .links) (linkNumbers (l′ ∷ []))
+      → b′ ≡ withLink b
+      → Going s ports₀ links₀ by b₀ ports links′ b′ next
+  link-read {l} w d stored e =
       let g = w .going in
-      let room : length (g .ls) < 256 = omega (arith, count-links g, w .told .room) in
       let left : g .left ≡ suc (g .left - 1) = some-left (g .left) (length s) at (g .enough) (omega (arith, w .told .onward)) in
-      record {
-        ps = g .ps;
-        ls = g .ls ++ (l ∷ []);
+      let long = length-sets links (9 * b .links) (linkNumbers (moved (b .ports - b .named) l ∷ [])) in
+      rw (stored, e, d, g .apart) (record {
         left = g .left - 1;
-        table = rw (g .table, pad-snoc 256 noLink (g .ls) l room, length-snoc (g .ls) l);
-        same = rw (← left) (w .on);
+        on = λ ps ls c f. w .then ps ls c (rw left (filled-link l f));
         enough = omega (arith, w .told .onward, left, g .enough);
         inside = w .told .onward .within;
-      }
+        room = record {
+          few-ports = g .room .few-ports;
+          few-links = omega (arith, w .told .room);
+          own = g .room .own;
+          port-room = omega (arith, g .room .port-room, w .told .onward);
+          link-room = omega (arith, g .room .link-room, w .told .onward, long);
+        };
+        apart = refl;
+        long-ports = g .long-ports;
+        long-links = long ∙ g .long-links;
+      })
 
-  pub refused : {number : ℕ} → Turn s t at (Refused number) → _≡_ {A = Reading} (record { number = number; table = t }) (readTable s)
-  refused w = rw (w .going .table) (w .on)
+  pub refused : {number : ℕ} → Turn s ports₀ links₀ by b₀ ports links b at (Refused number)
+      → Filled b₀ (readOn s b₀) ports₀ links₀ ports links (record { number = number; «port_count» = b .ports; «link_count» = b .links })
+  refused {number} w = w .then _ _ _ (filled-nothing number (w .going .room))
 
-  pub ended-empty : Turn s t at End → t .«port_count» ≡ 0 → _≡_ {A = Reading} (record { number = 12; table = t }) (readTable s)
-  ended-empty w e =
-      let none = eq-eqb (length (w .going .ps)) 0 (omega (arith, count-ports (w .going))) in
-      rw (w .going .table) (rw none at (w .on))
-
-  pub ended : Turn s t at End → t .«port_count» ≢ 0 → _≡_ {A = Reading} (record { number = 0; table = t }) (readTable s)
-  ended w f =
-      let some = ne-eqb (length (w .going .ps)) 0 (λ e. f (omega (arith, count-ports (w .going)))) in
-      rw (w .going .table) (rw some at (w .on))
+  pub ended : Turn s ports₀ links₀ by b₀ ports links b at End
+      → Filled b₀ (readOn s b₀) ports₀ links₀ ports links (record { number = 0; «port_count» = b .ports; «link_count» = b .links })
+  ended w = w .then _ _ _ (filled-nothing 0 (w .going .room))

@@ -32,17 +32,17 @@ returns-2 c = search needs
 add-end : tie.Need-add-end Inv-loop μ-loop
 add-end c = search needs
 
-sub-read-table : tie.Need-sub-read-table Inv-loop μ-loop
-sub-read-table c = search needs
+sub-number-of : tie.Need-sub-number-of Inv-loop μ-loop
+sub-number-of c = search needs
 
-part-read-table-start : tie.Need-part-read-table-start Inv-loop μ-loop
-part-read-table-start c = search needs
+part-number-of-start : tie.Need-part-number-of-start Inv-loop μ-loop
+part-number-of-start c = search needs
 
-part-read-table-end : tie.Need-part-read-table-end Inv-loop μ-loop
-part-read-table-end c = search needs
+part-number-of-end : tie.Need-part-number-of-end Inv-loop μ-loop
+part-number-of-end c = search needs
 
-read-table-requires : tie.Need-read-table-requires Inv-loop μ-loop
-read-table-requires c κs = search needs
+number-of-requires : tie.Need-number-of-requires Inv-loop μ-loop
+number-of-requires c κs = search needs
 
 print-decimal-requires : tie.Need-print-decimal-requires Inv-loop μ-loop
 print-decimal-requires c κs = search needs
@@ -75,10 +75,10 @@ run-spec =
     table-size-requires
     returns-2
     add-end
-    sub-read-table
-    part-read-table-start
-    part-read-table-end
-    read-table-requires
+    sub-number-of
+    part-number-of-start
+    part-number-of-end
+    number-of-requires
     print-decimal-requires
     slice-aggregate-write-all
     write-all-requires

@@ -7,7 +7,7 @@ use native.Mathlib.Omega.{arith}
 use lib.ListN.{length, getD}
 use Rattle.records.specs.Bytes.{bytes}
 use Rattle.records.specs.Answer.{Written, encode, portAnswer}
-use Rattle.table.specs.declared.Table.{Table}
+use Rattle.table.specs.Table.{Table, portCount}
 use Rattle.answers.specs.Answers.{portRecords}
 use Rattle.timings.specs.Timings.{aAt, bAt, startAt, TableNumbers, timingOf}
 use Rattle.timings.specs.Sizes.{b-is}
@@ -19,7 +19,7 @@ unfolding portAnswer encode bytes
 port-length component weight a b start = omega arith
 
 pub record PortsWritten (t : Table) (labels weights timing ys₀ ys : List ℕ) (at p : ℕ) : Type 0 where
-  pub so-far : Appended 24 (t .«port_count») (portRecords (timingOf t labels weights timing) p) ys₀ ys at p
+  pub so-far : Appended 24 (portCount t) (portRecords (timingOf t labels weights timing) p) ys₀ ys at p
 
 module _ {t : Table} {labels weights timing ys₀ : List ℕ} where
   pub ports-none : PortsWritten t labels weights timing ys₀ ys₀ 0 0
@@ -28,9 +28,9 @@ module _ {t : Table} {labels weights timing ys₀ : List ℕ} where
 
   pub ports-on : {ys part : List ℕ} {at p m : ℕ}
       → TableNumbers t weights timing
-      → 24 * t .«port_count» ≤ length ys₀
+      → 24 * portCount t ≤ length ys₀
       → PortsWritten t labels weights timing ys₀ ys at p
-      → p < t .«port_count»
+      → p < portCount t
       → Written (portAnswer (getD labels p 0) (getD weights p 0) (aAt timing p) (bAt timing p) (startAt timing p)) (partAt ys at) part m
       → PortsWritten t labels weights timing ys₀ (putBack ys at part) (at + m) (p + 1)
   unfolding portRecords
@@ -40,6 +40,6 @@ module _ {t : Table} {labels weights timing ys₀ : List ℕ} where
 
   pub ports-all : {ys : List ℕ} {at p : ℕ}
       → PortsWritten t labels weights timing ys₀ ys at p
-      → t .«port_count» ≤ p
-      → Written (portRecords (timingOf t labels weights timing) (t .«port_count»)) ys₀ ys at
-  ports-all {p} f l = let e : t .«port_count» ≡ p = omega (arith, f .so-far .within) in rw e (f .so-far .written)
+      → portCount t ≤ p
+      → Written (portRecords (timingOf t labels weights timing) (portCount t)) ys₀ ys at
+  ports-all {p} f l = let e : portCount t ≡ p = omega (arith, f .so-far .within) in rw e (f .so-far .written)

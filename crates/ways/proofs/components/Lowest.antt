@@ -6,7 +6,7 @@ use mathlib.Core.List.{List}
 use native.Mathlib.Omega.{arith}
 use lib.ListN.{getD}
 use Rattle.table.specs.Limits.{WellFormed}
-use Rattle.table.specs.declared.Table.{Table}
+use Rattle.table.specs.Table.{Table, portCount, linkCount}
 use Rattle.ways.specs.Model.{IsLink, from, to}
 use Rattle.ways.specs.Ways.{Step, Way, stay, walk}
 use Rattle.ways.specs.WayLaws.{step-port, way-port}
@@ -15,11 +15,11 @@ use Rattle.ways.specs.Passes.{Sound, Even}
 
 module _ {t : Table} where
   -- a way from a number that is no port goes nowhere
-  way-alone : {p q : ℕ} {path : List Step} → WellFormed t → Way t p q path → t .«port_count» ≤ p → q ≡ p
+  way-alone : {p q : ℕ} {path : List Step} → WellFormed t → Way t p q path → portCount t ≤ p → q ≡ p
   way-alone formed stay h = refl
   way-alone formed (walk s i w) h = absurd (omega (arith, step-port formed s i .below))
 
-  module _ {l : List ℕ} (even : Even t (t .«link_count») l) where
+  module _ {l : List ℕ} (even : Even t (linkCount t) l) where
     step-even : (k : ℕ) (b : Bool) → IsLink t k
         → getD l (cond b (to t k) (from t k)) 0 ≡ getD l (cond b (from t k) (to t k)) 0
     step-even k true i = sym (even .ends k (i .below))

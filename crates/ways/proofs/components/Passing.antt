@@ -7,9 +7,10 @@ use mathlib.Core.List.{List}
 use native.Mathlib.Omega.{arith}
 use borrow.Author.Count.{below-more}
 use Rattle.table.specs.Limits.{WellFormed}
-use Rattle.table.specs.declared.Table.{Table}
+use Rattle.table.specs.Table.{Table, linkCount}
 use Rattle.rounds.specs.Lists.{sum}
 use Rattle.ways.specs.Model.{IsLink, from, to}
+use Rattle.ways.specs.Ways.{Joined}
 use Rattle.ways.specs.WayLaws.{joined-sym, linked}
 use Rattle.ways.specs.Passes.{Both, Levelled, Sound, Passed}
 use Rattle.ways.proofs.components.Lowering.{sum-lowered, sound-lowered}
@@ -24,24 +25,27 @@ module _ {t : Table} where
     even = λ _. record { ends = λ j h. absurd (omega arith) };
   }
 
-  pub passed-all : {k : ℕ} {l l′ : List ℕ} {r : Bool} → Passed t k l l′ r → t .«link_count» ≤ k → Passed t (t .«link_count») l l′ r
-  passed-all {k} p h = let e : k ≡ t .«link_count» = omega arith in rw e at p
+  pub passed-all : {k : ℕ} {l l′ : List ℕ} {r : Bool} → Passed t k l l′ r → linkCount t ≤ k → Passed t (linkCount t) l l′ r
+  passed-all {k} p h = let e : k ≡ linkCount t = omega arith in rw e at p
 
-  module _ (formed : WellFormed t) {k : ℕ} (below : k < t .«link_count») where
-    -- the ends of link k have labels
-    pub passed-both : Both (from t k) (to t k)
+  module _ (formed : WellFormed t) {k u v : ℕ} (below : k < linkCount t) (sender : u ≡ from t k) (receiver : v ≡ to t k) where
+    -- the ends of link k, u and v, have labels
+    pub passed-both : Both u v
     passed-both = record { one = omega (arith, formed .links k below .from); other = omega (arith, formed .links k below .to) }
 
-    module _ {l l′ l″ : List ℕ} {r b : Bool} (p : Passed t k l l′ r) (x : Levelled l′ (from t k) (to t k) l″ b) where
+    joined-ends : IsLink t k → Joined t u v
+    joined-ends i = rw (sender, receiver) (linked i)
+
+    module _ {l l′ l″ : List ℕ} {r b : Bool} (p : Passed t k l l′ r) (x : Levelled l′ u v l″ b) where
       -- link k lowered a label
       pub passed-on : b ≡ true → Passed t (k + 1) l l″ true
       passed-on e =
           let i : IsLink t k = record { below = below } in
-          let turned : Both (to t k) (from t k) = record { one = passed-both .other; other = passed-both .one } in
+          let turned : Both v u = record { one = passed-both .other; other = passed-both .one } in
           let fewer : sum (λ v. v) l″ < sum (λ v. v) l′ = ⊎-elim sum-lowered sum-lowered (x .lowered e) in
           record {
             within = omega arith;
-            sound = ⊎-elim (sound-lowered (p .sound) (linked i) passed-both) (sound-lowered (p .sound) (joined-sym (linked i)) turned) (x .lowered e);
+            sound = ⊎-elim (sound-lowered (p .sound) (joined-ends i) passed-both) (sound-lowered (p .sound) (joined-sym (joined-ends i)) turned) (x .lowered e);
             most = omega (arith, p .most);
             less = λ _. omega (arith, p .most);
             even = λ d. absurd (true≢false d);
@@ -54,5 +58,5 @@ module _ {t : Table} where
         sound = p .sound;
         most = p .most;
         less = p .less;
-        even = λ d. record { ends = below-more _ k (p .even d .ends) (x .equal e) };
+        even = λ d. record { ends = below-more _ k (p .even d .ends) (rw (sender, receiver) at (x .equal e)) };
       })

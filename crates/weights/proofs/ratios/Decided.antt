@@ -5,7 +5,7 @@ use mathlib.Core.List.{List, map}
 use native.Mathlib.Omega.{arith}
 use lib.ListN.{length}
 use Rattle.table.specs.Limits.{WellFormed}
-use Rattle.table.specs.declared.Table.{Table}
+use Rattle.table.specs.Table.{Table, linkCount}
 use Rattle.rounds.specs.Lists.{_∈_}
 use Rattle.ways.specs.Model.{from}
 use Rattle.ways.specs.Ways.{above, below}
@@ -20,7 +20,7 @@ use Rattle.weights.specs.Ratios.{DisagreeingLoop, LoopNumbers}
 module _ {t : Table} {labels reach via : List ℕ} {rows : List (List ℕ)} {k : ℕ} (formed : WellFormed t) (components : Components t labels)
     (spanned : Spanned t labels reach via rows) (first : FirstConflict t rows k) where
   -- a link that the rows do not fit is none of the forest's
-  pub closing : {numbers : List ℕ} → k < t .«link_count» → 128 ≤ length numbers → Closing t labels reach via k numbers
+  pub closing : {numbers : List ℕ} → k < linkCount t → 128 ≤ length numbers → Closing t labels reach via k numbers
   closing below room = record {
     well-formed = formed;
     components = components;
@@ -30,7 +30,7 @@ module _ {t : Table} {labels reach via : List ℕ} {rows : List (List ℕ)} {k :
     room = room;
   }
 
-  disagrees : {numbers : List ℕ} {n : ℕ} → k < t .«link_count» → Closed t labels via k numbers n → DisagreeingLoop t (stepsFrom numbers 0 n)
+  disagrees : {numbers : List ℕ} {n : ℕ} → k < linkCount t → Closed t labels via k numbers n → DisagreeingLoop t (stepsFrom numbers 0 n)
   disagrees {numbers} {n} low c = record { at = from t k; way = c .way; ports = c .ports; links = c .links; unequal = unequal }
     where
       fits : (j : ℕ) → j ∈ map (λ x. x .number) (c .rest) → Fits t rows j
@@ -40,11 +40,11 @@ module _ {t : Table} {labels reach via : List ℕ} {rows : List (List ℕ)} {k :
       unequal = rw (c .steps) (loop-unequal rows formed k (c .rest) (rw (c .steps) at (c .way)) fits (first .conflict low))
 
   -- the loop that it closes disagrees
-  pub loop-numbers : {numbers : List ℕ} {n : ℕ} → k < t .«link_count» → Closed t labels via k numbers n → LoopNumbers t numbers n
+  pub loop-numbers : {numbers : List ℕ} {n : ℕ} → k < linkCount t → Closed t labels via k numbers n → LoopNumbers t numbers n
   loop-numbers low c = record { loop = disagrees low c; few = c .few; directions = c .directions }
 
   -- rows that fit every link
-  pub weighing : t .«link_count» ≤ k → Weighing t labels rows
+  pub weighing : linkCount t ≤ k → Weighing t labels rows
   weighing all = record {
     well-formed = formed;
     components = components;

@@ -5,7 +5,7 @@ use mathlib.Core.List.{List}
 use native.Mathlib.Decide.{ℕ-discrete}
 use native.Mathlib.Omega.{arith}
 use Rattle.table.specs.Limits.{WellFormed}
-use Rattle.table.specs.declared.Table.{Table}
+use Rattle.table.specs.Table.{Table, portCount}
 use Rattle.ways.specs.Model.{IsLink, from, to, num, den}
 use Rattle.forest.specs.PortRows.{MostPart}
 use Rattle.weights.specs.Weighed.{Ones, HasWeights}
@@ -15,7 +15,7 @@ module _ {t : Table} (formed : WellFormed t) (none : MostPart t 0) where
   ratio-one k i (yes e) = e
   ratio-one k i (no d) = absurd (omega (arith, none .num-most k i d, formed .links k (i .below) .num .least))
 
-  pub unit-weights : {weights : List ℕ} → Ones (t .«port_count») weights → HasWeights t weights
+  pub unit-weights : {weights : List ℕ} → Ones (portCount t) weights → HasWeights t weights
   unit-weights {weights} o = record {
     long = o .long;
     are = record {

@@ -9,7 +9,7 @@ use borrow.Author.Count.{below-more}
 use lib.ListN.{length, getD, set, length-set}
 use lib.Seq.{getD-set-same, getD-set-other}
 use Rattle.exponents.specs.Row.{RowAt, Within, Lesser, TakenLesser}
-use Rattle.table.specs.declared.Table.{Table}
+use Rattle.table.specs.Table.{Table, portCount}
 use Rattle.rounds.specs.Lists.{lt-or-le}
 use Rattle.ways.specs.Model.{IsPort}
 use Rattle.ways.specs.WayLaws.{way-port, joined-component, component-unique}
@@ -26,7 +26,7 @@ module _ {t : Table} {labels : List ℕ} {rows : List (List ℕ)} (g : LabelledR
       component-unique (g .components .each (getD labels p 0) (label-port p i))
       (joined-component (g .components .each p i .joined) (g .components .each p i))
 
-  pub label-small : {p : ℕ} → p < t .«port_count» → getD labels p 0 < 64
+  pub label-small : {p : ℕ} → p < portCount t → getD labels p 0 < 64
   label-small {p} h = omega (arith, label-port p (record { below = h }) .below, g .well-formed .few-ports)
 
   pub least-none : LeastRows t labels rows 0 rows
@@ -38,7 +38,7 @@ module _ {t : Table} {labels : List ℕ} {rows : List (List ℕ)} (g : LabelledR
   }
 
   -- the row of port p is taken in
-  module _ {r : List (List ℕ)} {p : ℕ} {x : List ℕ} (port : p < t .«port_count») (l : LeastRows t labels rows p r)
+  module _ {r : List (List ℕ)} {p : ℕ} {x : List ℕ} (port : p < portCount t) (l : LeastRows t labels rows p r)
       (x-long : length x ≡ 168) (less : Lesser (rowOf r (getD labels p 0)) (rowOf rows p) x) where
     abbrev next : List (List ℕ)
     next = set r (getD labels p 0) x
@@ -87,17 +87,17 @@ module _ {t : Table} {labels : List ℕ} {rows : List (List ℕ)} (g : LabelledR
     }
 
 -- the same of what `take_lesser` makes
-pub least-taken : {t : Table} {labels : List ℕ} {rows r r′ : List (List ℕ)} {p : ℕ} → LabelledRows t labels rows → p < t .«port_count»
+pub least-taken : {t : Table} {labels : List ℕ} {rows r r′ : List (List ℕ)} {p : ℕ} → LabelledRows t labels rows → p < portCount t
     → LeastRows t labels rows p r
     → TakenLesser r (getD labels p 0) (rowOf rows p) r′
     → LeastRows t labels rows (p + 1) r′
 least-taken g port l taken = rw (taken .made) (least-on g port l (taken .long) (taken .is-lesser))
 
-pub least-row : {t : Table} {labels : List ℕ} {rows r : List (List ℕ)} {p : ℕ} → LabelledRows t labels rows → p < t .«port_count»
+pub least-row : {t : Table} {labels : List ℕ} {rows r : List (List ℕ)} {p : ℕ} → LabelledRows t labels rows → p < portCount t
     → LeastRows t labels rows p r
     → RowAt r (getD labels p 0)
 least-row g port l = record { below = label-small g port; long = l .each _ (label-small g port) }
 
-pub least-all : {t : Table} {labels : List ℕ} {rows r : List (List ℕ)} {p : ℕ} → LeastRows t labels rows p r → t .«port_count» ≤ p
-    → LeastRows t labels rows (t .«port_count») r
+pub least-all : {t : Table} {labels : List ℕ} {rows r : List (List ℕ)} {p : ℕ} → LeastRows t labels rows p r → portCount t ≤ p
+    → LeastRows t labels rows (portCount t) r
 least-all l h = record { long = l .long; each = l .each; least = λ q b. l .least q (omega arith); attained = l .attained }

@@ -2,7 +2,7 @@
 use Prim.Native.Nat.{ℕ}
 use mathlib.Core.Path.{_≡_}
 use Rattle.table.specs.Limits.{WellFormed}
-use Rattle.table.specs.declared.Table.{Table}
+use Rattle.table.specs.Table.{Table}
 use Rattle.ways.specs.Model.{IsPort, from, to}
 use Rattle.ways.specs.Weights.{Proportional, Weights}
 

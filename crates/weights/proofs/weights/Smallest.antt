@@ -10,7 +10,7 @@ use Rattle.fraction.specs.Prime.{IsPrime}
 use Rattle.exponents.specs.Primes.{primeAt}
 use Rattle.exponents.specs.Row.{rowValue}
 use Rattle.exponents.specs.RowLaws.{row-positive, prime-in-row, exponent-positive}
-use Rattle.table.specs.declared.Table.{Table}
+use Rattle.table.specs.Table.{Table, portCount}
 use Rattle.ways.specs.Model.{IsPort, IsLink, from, to, num, den}
 use Rattle.ways.specs.Ways.{Joined}
 use Rattle.ways.specs.WayLaws.{linked, joined-refl, joined-sym, joined-trans, joined-component, component-unique}
@@ -29,7 +29,7 @@ abbrev pub weightOf : List ℕ → List (List ℕ) → List (List ℕ) → ℕ �
 weightOf labels rows least p = rowValue (rest labels rows least p)
 
 module _ {t : Table} {labels : List ℕ} {rows least : List (List ℕ)} (g : Weighing t labels rows)
-    (l : LeastRows t labels rows (t .«port_count») least) where
+    (l : LeastRows t labels rows (portCount t) least) where
   abbrev w : ℕ → ℕ
   w = weightOf labels rows least
 

@@ -11,7 +11,7 @@ use Rattle.exponents.specs.Row.{RowAt, Within, SameAbove, excess}
 use Rattle.exponents.specs.Primes.{primeAt}
 use Rattle.fraction.specs.Exponents.{powers}
 use Rattle.rounds.specs.StartsLaws.{zeros-at}
-use Rattle.table.specs.declared.Table.{Table}
+use Rattle.table.specs.Table.{Table, portCount}
 use Rattle.forest.specs.PortRows.{rowOf, RowsUpTo}
 use Rattle.weights.specs.LeastRows.{LabelledRows, LeastRows}
 use Rattle.weights.specs.Weighed.{Weighing, Ones, IsWeighed, mostWeight}
@@ -30,7 +30,7 @@ labelled-rows g = record {
 
 -- the weights of the ports below n are stored, none above 10,000
 pub record Weighted (t : Table) (labels : List ℕ) (rows least : List (List ℕ)) (n : ℕ) (weights : List ℕ) : Type 0 where
-  pub ports : n ≤ t .«port_count»
+  pub ports : n ≤ portCount t
   pub long : length weights ≡ 64
   pub are : (p : ℕ) → p < n → getD weights p 0 ≡ weightOf labels rows least p
   pub small : (p : ℕ) → p < n → weightOf labels rows least p ≤ mostWeight
@@ -46,12 +46,12 @@ module _ {t : Table} {labels : List ℕ} {rows least : List (List ℕ)} where
     rest = λ p h. zeros-at 64 p;
   }
 
-  module _ (g : Weighing t labels rows) (l : LeastRows t labels rows (t .«port_count») least) where
-    pub weighted-within : {p : ℕ} → p < t .«port_count» → Within (rowOf least (getD labels p 0)) (rowOf rows p)
+  module _ (g : Weighing t labels rows) (l : LeastRows t labels rows (portCount t) least) where
+    pub weighted-within : {p : ℕ} → p < portCount t → Within (rowOf least (getD labels p 0)) (rowOf rows p)
     weighted-within {p} h = l .least p h
 
     -- the least exponent of a prime is zero where each is
-    pub weighted-above : {p most : ℕ} → p < t .«port_count» → RowsUpTo rows most
+    pub weighted-above : {p most : ℕ} → p < portCount t → RowsUpTo rows most
         → SameAbove (rowOf least (getD labels p 0)) (rowOf rows p) most
     weighted-above {p} h up = record {
       place = λ i b high.
@@ -64,16 +64,16 @@ module _ {t : Table} {labels : List ℕ} {rows least : List (List ℕ)} where
           );
     }
 
-    pub weighted-row : {p : ℕ} → p < t .«port_count» → RowAt rows p
+    pub weighted-row : {p : ℕ} → p < portCount t → RowAt rows p
     weighted-row {p} h =
         let low : p < 64 = omega (arith, g .well-formed .few-ports) in
         record { below = low; long = g .port-rows .near p low .long }
 
-    pub weighted-least : {p : ℕ} → p < t .«port_count» → RowAt least (getD labels p 0)
+    pub weighted-least : {p : ℕ} → p < portCount t → RowAt least (getD labels p 0)
     weighted-least h = let low = label-small (labelled-rows g) h in record { below = low; long = l .each _ low }
 
     -- the weight of port p, or 10,001 where that is less, is x
-    module _ {p x : ℕ} (h : p < t .«port_count») (is : x ≡ min (powers primeAt (excess (rowOf least (getD labels p 0)) (rowOf rows p)) 168) 10001) where
+    module _ {p x : ℕ} (h : p < portCount t) (is : x ≡ min (powers primeAt (excess (rowOf least (getD labels p 0)) (rowOf rows p)) 168) 10001) where
       is-weight : x ≡ min (weightOf labels rows least p) 10001
       is-weight = is ∙ ap (λ (n : ℕ). min n 10001) (excess-difference (rowOf rows p) (rowOf least (getD labels p 0)))
 
@@ -100,7 +100,7 @@ module _ {t : Table} {labels : List ℕ} {rows least : List (List ℕ)} where
         };
       }
 
-    pub weighted-all : {p : ℕ} {weights : List ℕ} → Weighted t labels rows least p weights → t .«port_count» ≤ p
+    pub weighted-all : {p : ℕ} {weights : List ℕ} → Weighted t labels rows least p weights → portCount t ≤ p
         → IsWeighed t (record { within = true; weights = weights })
     weighted-all {p} {weights} s h = record {
       within = λ e. record {

@@ -4,6 +4,8 @@ use mathlib.Core.Path.{refl}
 use native.Mathlib.Omega.{arith}
 use borrow.Author.Needs.{needs}
 use lib.ListN.{length-set}
+use Rattle.table.specs.Slices.{tableOf}
+use Rattle.table.specs.Table.{portCount}
 use Rattle.constraints.specs.Slices.{limitsOf}
 use Rattle.constraints.proofs.slices.Turns.{limit-most, limit-on}
 use Rattle.constraints.proofs.slices.Going.{Going, going-none, going-all}
@@ -11,23 +13,23 @@ use Rattle.constraints.proofs.slices.limits_of.Statement.{statement}
 use Rattle.constraints.proofs.slices.limits_of.Tie as tie
 
 abbrev Inv-loop : tie.InvT-loop
-Inv-loop limits₀ t weights p₀ limits p = Going (limitsOf t weights) 2 (t .«port_count») limits₀ limits (2 * p) p
+Inv-loop ports links weights limits₀ count p₀ limits p = Going (limitsOf (tableOf ports links) weights) 2 (portCount (tableOf ports links)) limits₀ limits (2 * p) p
 
 abbrev μ-loop : tie.MeasureT-loop
-μ-loop limits₀ t weights p₀ limits p = t .«port_count» - p
+μ-loop ports links weights limits₀ count p₀ limits p = portCount (tableOf ports links) - p
+
+count-requires : tie.Need-count-requires Inv-loop μ-loop
+count-requires c κs = search needs
 
 loop-holds : tie.Need-loop-holds Inv-loop μ-loop
 unfolding limitsOf
 loop-holds c = going-none refl
 
-mul-port : tie.Need-mul-port Inv-loop μ-loop
-mul-port c = search needs
+num-requires : tie.Need-num-requires Inv-loop μ-loop
+num-requires c κs = search needs
 
-element-copy-out-port : tie.Need-element-copy-out-port Inv-loop μ-loop
-element-copy-out-port c = search needs
-
-cast-limits : tie.Need-cast-limits Inv-loop μ-loop
-cast-limits c = search needs
+den-requires : tie.Need-den-requires Inv-loop μ-loop
+den-requires c κs = search needs
 
 mul-limits : tie.Need-mul-limits Inv-loop μ-loop
 mul-limits c = search needs
@@ -36,19 +38,16 @@ mul-limits-2 : tie.Need-mul-limits-2 Inv-loop μ-loop
 mul-limits-2 c = search needs
 
 slice-write-limits : tie.Need-slice-write-limits Inv-loop μ-loop
-slice-write-limits c = search needs
-
-cast-limits-2 : tie.Need-cast-limits-2 Inv-loop μ-loop
-cast-limits-2 c = search needs
+slice-write-limits c = omega (arith, c .before .before .before .before .before .before .before .before .pre .0 .few-ports)
 
 mul-limits-3 : tie.Need-mul-limits-3 Inv-loop μ-loop
 mul-limits-3 c = search needs
 
-array-read-limits : tie.Need-array-read-limits Inv-loop μ-loop
-array-read-limits c = search needs
+element-copy-out-limits : tie.Need-element-copy-out-limits Inv-loop μ-loop
+element-copy-out-limits c = omega (arith, c .before .before .before .before .before .before .before .before .pre .0 .few-ports)
 
 mul-limits-4 : tie.Need-mul-limits-4 Inv-loop μ-loop
-mul-limits-4 c = omega (arith, limit-most (c .before .before .before .before .before .pre .0) (c .before .before .before .before .before .pre .1 .0) (c .before .before .before .loop-test .taken))
+mul-limits-4 c = omega (arith, limit-most (c .before .before .before .before .before .before .before .before .before .pre .0) (omega arith) (c .before .before .num .ensures) (c .before .den .ensures) (c .before .before .before .before .before .before .before .before .before .pre .1 .0))
 
 mul-limits-5 : tie.Need-mul-limits-5 Inv-loop μ-loop
 mul-limits-5 c = search needs
@@ -60,7 +59,7 @@ mul-limits-6 : tie.Need-mul-limits-6 Inv-loop μ-loop
 mul-limits-6 c = search needs
 
 slice-write-limits-2 : tie.Need-slice-write-limits-2 Inv-loop μ-loop
-slice-write-limits-2 c = simp length-set (omega (arith, c .before .before .before .before .before .pre .0 .few-ports))
+slice-write-limits-2 c = simp length-set (omega (arith, c .before .before .before .before .before .before .before .before .before .pre .0 .few-ports))
 
 add-p : tie.Need-add-p Inv-loop μ-loop
 add-p c = search needs
@@ -69,7 +68,7 @@ loop-less : tie.Need-loop-less Inv-loop μ-loop
 loop-less c = search needs
 
 loop-again : tie.Need-loop-again Inv-loop μ-loop
-loop-again c = limit-on _ _ (c .before .before .before .before .loop .inv) (c .before .before .before .before .before .pre .0) (c .before .before .before .before .before .pre .1 .1) (c .before .before .before .loop-test .taken)
+loop-again c = limit-on (c .before .before .before .before .before .before .before .before .before .pre .0) (omega arith) (c .before .before .num .ensures) (c .before .den .ensures) _ (c .before .before .before .before .loop .inv) (c .before .before .before .before .before .before .before .before .before .pre .1 .1)
 
 mul-result : tie.Need-mul-result Inv-loop μ-loop
 mul-result c = search needs
@@ -78,7 +77,7 @@ same-length : tie.Need-same-length Inv-loop μ-loop
 same-length c = search needs
 
 returns : tie.Need-returns Inv-loop μ-loop
-returns c = going-all (c .before .loop .inv) (c .loop-test .left)
+returns c = going-all (c .before .loop .inv) (omega arith)
 
 pub limits-of-spec : {M : Type 1} → statement M
 limits-of-spec =
@@ -86,16 +85,15 @@ limits-of-spec =
     (tie.spec
     Inv-loop
     μ-loop
+    count-requires
     loop-holds
-    mul-port
-    element-copy-out-port
-    cast-limits
+    num-requires
+    den-requires
     mul-limits
     mul-limits-2
     slice-write-limits
-    cast-limits-2
     mul-limits-3
-    array-read-limits
+    element-copy-out-limits
     mul-limits-4
     mul-limits-5
     add-limits

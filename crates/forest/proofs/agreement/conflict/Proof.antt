@@ -1,5 +1,8 @@
 -- The rows fit every link passed so far. Assumes nothing.
+use Rattle.table.specs.Slices.{linksOf, tableOf}
+use lib.ListN.{length}
 use Prim.Native.Nat.{_-_}
+use native.Mathlib.Omega.{arith}
 use borrow.Author.Tests.{not-true, not-false}
 use borrow.Author.Needs.{needs}
 use Rattle.forest.proofs.agreement.TreeLinks.{end-low, over-known}
@@ -8,43 +11,34 @@ use Rattle.forest.proofs.agreement.conflict.Statement.{statement}
 use Rattle.forest.proofs.agreement.conflict.Tie as tie
 
 abbrev Inv-loop : tie.InvT-loop
-Inv-loop labels reach via rows divisors places t k₀ k = Scanned t rows k
+Inv-loop ports links labels reach via rows divisors places count k₀ k = Scanned (tableOf ports links) rows k
 
 abbrev μ-loop : tie.MeasureT-loop
-μ-loop labels reach via rows divisors places t k₀ k = t .«link_count» - k
+μ-loop ports links labels reach via rows divisors places count k₀ k = length (linksOf links) - k
+
+count-requires : tie.Need-count-requires Inv-loop μ-loop
+count-requires c κs = search needs
 
 loop-holds : tie.Need-loop-holds Inv-loop μ-loop
 loop-holds c = scanned-none
 
-mul-l : tie.Need-mul-l Inv-loop μ-loop
-mul-l c = search needs
-
-element-copy-out-l : tie.Need-element-copy-out-l Inv-loop μ-loop
-element-copy-out-l c = search needs
-
-cast-later : tie.Need-cast-later Inv-loop μ-loop
-cast-later c = search needs
-
-cast-later-2 : tie.Need-cast-later-2 Inv-loop μ-loop
-cast-later-2 c = search needs
+at-requires : tie.Need-at-requires Inv-loop μ-loop
+at-requires c κs = search needs
 
 later-requires : tie.Need-later-requires Inv-loop μ-loop
-later-requires c κs = let l = link-low (c .before .before .before .before .before .before .before .pre .0) (c .before .before .before .loop-test .taken) in (l .from, l .to)
+later-requires c κs = let l = link-low (c .before .before .before .before .before .before .before .before .pre .0) (omega arith) (c .at .ensures) in (l .from, l .to)
 
 tree-link-requires : tie.Need-tree-link-requires Inv-loop μ-loop
-tree-link-requires c κs = end-low (c .before .before .before .before .before .before .before .before .pre .0) (c .before .before .before .before .loop-test .taken) (c .later .ensures)
+tree-link-requires c κs = end-low (c .before .before .before .before .before .before .before .before .before .pre .0) (omega arith) (c .before .at .ensures) (c .later .ensures)
 
-mul-m : tie.Need-mul-m Inv-loop μ-loop
-mul-m c = let x = over-known (c .before .before .before .before .before .before .before .before .before .pre .0) (c .before .before .before .before .before .loop-test .taken) (c .before .later .ensures) (c .before .before .before .before .before .before .before .before .before .pre .1 .1 .0) (c .tree-link .ensures) in search needs
-
-element-copy-out-m : tie.Need-element-copy-out-m Inv-loop μ-loop
-element-copy-out-m c = let x = over-known (c .before .before .before .before .before .before .before .before .before .pre .0) (c .before .before .before .before .before .loop-test .taken) (c .before .later .ensures) (c .before .before .before .before .before .before .before .before .before .pre .1 .1 .0) (c .tree-link .ensures) in search needs
+at-requires-2 : tie.Need-at-requires-2 Inv-loop μ-loop
+at-requires-2 c κs = (over-known (c .before .before .before .before .before .before .before .before .before .before .pre .0) (omega arith) (c .before .before .at .ensures) (c .before .later .ensures) (c .before .before .before .before .before .before .before .before .before .before .pre .1 .1 .0) (c .tree-link .ensures)) .below
 
 agrees-requires : tie.Need-agrees-requires Inv-loop μ-loop
-agrees-requires c κs = let x = over-known (c .before .before .before .before .before .before .before .before .before .before .pre .0) (c .before .before .before .before .before .before .loop-test .taken) (c .before .before .later .ensures) (c .before .before .before .before .before .before .before .before .before .before .pre .1 .1 .0) (c .before .tree-link .ensures) in (link-low (c .before .before .before .before .before .before .before .before .before .before .pre .0) (c .before .before .before .before .before .before .loop-test .taken), (link-low (c .before .before .before .before .before .before .before .before .before .before .pre .0) (x .below), (c .before .before .before .before .before .before .before .before .before .before .pre .1 .0, (x .fits, c .before .before .before .before .before .before .before .before .before .before .pre .1 .1 .1))))
+agrees-requires c κs = let x = over-known (c .before .before .before .before .before .before .before .before .before .before .before .pre .0) (omega arith) (c .before .before .before .at .ensures) (c .before .before .later .ensures) (c .before .before .before .before .before .before .before .before .before .before .before .pre .1 .1 .0) (c .before .tree-link .ensures) in (link-low (c .before .before .before .before .before .before .before .before .before .before .before .pre .0) (omega arith) (c .before .before .before .at .ensures), (link-low (c .before .before .before .before .before .before .before .before .before .before .before .pre .0) (x .below) (c .at2 .ensures), (c .before .before .before .before .before .before .before .before .before .before .before .pre .1 .0, (rw (c .at2 .ensures) (x .fits), c .before .before .before .before .before .before .before .before .before .before .before .pre .1 .1 .1))))
 
 returns : tie.Need-returns Inv-loop μ-loop
-returns c = search (scanned-conflict, not-true, needs)
+returns c = scanned-conflict (c .before .before .before .before .before .before .before .loop .inv) (c .before .before .before .before .before .at .ensures) (c .before .agrees .ensures) (not-true (c .before .agrees .result) (c .if1 .taken))
 
 add-k : tie.Need-add-k Inv-loop μ-loop
 add-k c = search needs
@@ -53,10 +47,10 @@ loop-less : tie.Need-loop-less Inv-loop μ-loop
 loop-less c = search needs
 
 loop-again : tie.Need-loop-again Inv-loop μ-loop
-loop-again c = search (scanned-on, not-false, needs)
+loop-again c = scanned-on (c .before .before .before .before .before .before .before .loop .inv) (c .before .before .before .before .before .at .ensures) (c .before .agrees .ensures) (omega arith) (not-false (c .before .agrees .result) (c .if1 .left))
 
 returns-2 : tie.Need-returns-2 Inv-loop μ-loop
-returns-2 c = search (scanned-all, needs)
+returns-2 c = scanned-all (c .before .loop .inv) (omega arith)
 
 pub conflict-spec : {M : Type 1} → statement M
 conflict-spec =
@@ -64,15 +58,12 @@ conflict-spec =
     (tie.spec
     Inv-loop
     μ-loop
+    count-requires
     loop-holds
-    mul-l
-    element-copy-out-l
-    cast-later
-    cast-later-2
+    at-requires
     later-requires
     tree-link-requires
-    mul-m
-    element-copy-out-m
+    at-requires-2
     agrees-requires
     returns
     add-k

@@ -4,17 +4,11 @@ use borrow.Author.Needs.{needs}
 use Rattle.forest.proofs.agreement.fits.Statement.{statement}
 use Rattle.forest.proofs.agreement.fits.Tie as tie
 
-cast-from : tie.Need-cast-from
-cast-from c = search needs
-
-cast-to : tie.Need-cast-to
-cast-to c = search needs
-
 same-rows-requires : tie.Need-same-rows-requires
-same-rows-requires c κs = (row-at _ (c .before .before .before .before .before .before .pre .1 .0) (c .before .before .before .before .before .before .pre .0 .to), row-at _ (c .before .before .before .before .before .before .pre .1 .0) (c .before .before .before .before .before .before .pre .0 .from))
+same-rows-requires c κs = (row-at _ (c .before .before .before .before .pre .1 .0) (c .before .before .before .before .pre .0 .to), row-at _ (c .before .before .before .before .pre .1 .0) (c .before .before .before .before .pre .0 .from))
 
 returns : tie.Need-returns
-returns c = compared-rows (c .before .before .before .before .before .before .before .pre .0) (c .before .before .before .before .before .before .before .pre .1 .0) (c .before .if1 .taken) (c .same-rows .ensures)
+returns c = compared-rows (c .before .before .before .before .before .pre .0) (c .before .before .before .before .before .pre .1 .0) (c .before .if1 .taken) (c .same-rows .ensures)
 
 mul-scaled : tie.Need-mul-scaled
 mul-scaled c = search needs
@@ -22,14 +16,8 @@ mul-scaled c = search needs
 element-copy-out-scaled : tie.Need-element-copy-out-scaled
 element-copy-out-scaled c = search needs
 
-cast-scaled : tie.Need-cast-scaled
-cast-scaled c = search needs
-
-cast-scaled-2 : tie.Need-cast-scaled-2
-cast-scaled-2 c = search needs
-
 scaled-requires : tie.Need-scaled-requires
-scaled-requires c κs = (c .before .before .before .before .before .before .before .before .before .pre .1 .1, (room-multiply _ _ (c .before .before .before .before .before .before .before .before .before .pre .1 .0) (c .before .before .before .before .before .before .before .before .before .pre .0 .to) (c .before .before .before .before .before .before .before .before .before .pre .0 .num), room-divide _ _ (c .before .before .before .before .before .before .before .before .before .pre .1 .0) (c .before .before .before .before .before .before .before .before .before .pre .0 .to) (c .before .before .before .before .before .before .before .before .before .pre .0 .den)))
+scaled-requires c κs = (c .before .before .before .before .before .pre .1 .1, (room-multiply _ _ (c .before .before .before .before .before .pre .1 .0) (c .before .before .before .before .before .pre .0 .to) (c .before .before .before .before .before .pre .0 .num), room-divide _ _ (c .before .before .before .before .before .pre .1 .0) (c .before .before .before .before .before .pre .0 .to) (c .before .before .before .before .before .pre .0 .den)))
 
 mul-same : tie.Need-mul-same
 mul-same c = search needs
@@ -41,20 +29,16 @@ same-requires : tie.Need-same-requires
 same-requires c κs = search needs
 
 returns-2 : tie.Need-returns-2
-returns-2 c = compared (c .before .before .before .before .before .before .before .before .before .before .before .before .pre .0) (c .before .before .before .before .before .before .before .before .before .before .before .before .pre .1 .0) (c .before .before .scaled .ensures) (search needs) (c .same .ensures)
+returns-2 c = compared (c .before .before .before .before .before .before .before .before .pre .0) (c .before .before .before .before .before .before .before .before .pre .1 .0) (c .before .before .scaled .ensures) (search needs) (c .same .ensures)
 
 pub fits-spec : {M : Type 1} → statement M
 fits-spec =
     tie.close
     (tie.spec
-    cast-from
-    cast-to
     same-rows-requires
     returns
     mul-scaled
     element-copy-out-scaled
-    cast-scaled
-    cast-scaled-2
     scaled-requires
     mul-same
     element-copy-out-same

@@ -8,10 +8,10 @@ use Rattle.forest.proofs.loops.append.Statement.{statement}
 use Rattle.forest.proofs.loops.append.Tie as tie
 
 abbrev Inv-loop : tie.InvT-loop
-Inv-loop numbers₀ next first down from₀ to₀ numbers from to = Copied down numbers₀ numbers first next from to
+Inv-loop numbers₀ next down first from₀ to₀ numbers from to = Copied down numbers₀ numbers first next from to
 
 abbrev μ-loop : tie.MeasureT-loop
-μ-loop numbers₀ next first down from₀ to₀ numbers from to = 128 - from
+μ-loop numbers₀ next down first from₀ to₀ numbers from to = 128 - from
 
 loop-holds : tie.Need-loop-holds Inv-loop μ-loop
 loop-holds c = search (copied-none, needs)
@@ -19,8 +19,8 @@ loop-holds c = search (copied-none, needs)
 mul-numbers : tie.Need-mul-numbers Inv-loop μ-loop
 mul-numbers c = search needs
 
-array-read-numbers : tie.Need-array-read-numbers Inv-loop μ-loop
-array-read-numbers c = search needs
+element-copy-out-numbers : tie.Need-element-copy-out-numbers Inv-loop μ-loop
+element-copy-out-numbers c = search needs
 
 mul-numbers-2 : tie.Need-mul-numbers-2 Inv-loop μ-loop
 mul-numbers-2 c = search needs
@@ -38,7 +38,7 @@ loop-less : tie.Need-loop-less Inv-loop μ-loop
 loop-less c = search needs
 
 loop-again : tie.Need-loop-again Inv-loop μ-loop
-loop-again c = copied-more (c .before .loop .inv) (c .loop-test .taken) (omega arith)
+loop-again c = copied-more (c .before .before .loop .inv) (c .before .loop-test .taken) (omega arith)
 
 same-length : tie.Need-same-length Inv-loop μ-loop
 same-length c = search needs
@@ -54,7 +54,7 @@ append-spec =
     μ-loop
     loop-holds
     mul-numbers
-    array-read-numbers
+    element-copy-out-numbers
     mul-numbers-2
     slice-write-numbers
     add-from

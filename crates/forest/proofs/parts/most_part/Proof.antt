@@ -1,5 +1,8 @@
 -- No part of a ratio passed so far is greater. The measure is how many links are left. Assumes nothing.
+use Rattle.table.specs.Slices.{linksOf, tableOf}
+use lib.ListN.{length}
 use Prim.Native.Nat.{_-_}
+use native.Mathlib.Omega.{arith}
 use mathlib.Core.Logic.{⊎-elim}
 use Rattle.forest.proofs.parts.Most.{MostBelow, most-none, most-on, most-off, most-all}
 use borrow.Author.Needs.{needs}
@@ -7,25 +10,22 @@ use Rattle.forest.proofs.parts.most_part.Statement.{statement}
 use Rattle.forest.proofs.parts.most_part.Tie as tie
 
 abbrev Inv-loop : tie.InvT-loop
-Inv-loop t most₀ k₀ most k = MostBelow t k most
+Inv-loop ports links count most₀ k₀ most k = MostBelow (tableOf ports links) k most
 
 abbrev μ-loop : tie.MeasureT-loop
-μ-loop t most₀ k₀ most k = t .«link_count» - k
+μ-loop ports links count most₀ k₀ most k = length (linksOf links) - k
+
+count-requires : tie.Need-count-requires Inv-loop μ-loop
+count-requires c κs = search needs
 
 loop-holds : tie.Need-loop-holds Inv-loop μ-loop
 loop-holds c = most-none
 
-mul-l : tie.Need-mul-l Inv-loop μ-loop
-mul-l c = search needs
+num-requires : tie.Need-num-requires Inv-loop μ-loop
+num-requires c κs = search needs
 
-element-copy-out-l : tie.Need-element-copy-out-l Inv-loop μ-loop
-element-copy-out-l c = search needs
-
-cast-larger : tie.Need-cast-larger Inv-loop μ-loop
-cast-larger c = search needs
-
-cast-larger-2 : tie.Need-cast-larger-2 Inv-loop μ-loop
-cast-larger-2 c = search needs
+den-requires : tie.Need-den-requires Inv-loop μ-loop
+den-requires c κs = search needs
 
 larger-requires : tie.Need-larger-requires Inv-loop μ-loop
 larger-requires c κs = search needs
@@ -40,10 +40,10 @@ loop-less : tie.Need-loop-less Inv-loop μ-loop
 loop-less c = search needs
 
 loop-again : tie.Need-loop-again Inv-loop μ-loop
-loop-again c = ⊎-elim (λ w. rw (w .5) (search (most-on, needs))) (λ w. rw (w .1) (search (most-off, needs))) (c .if1 .came)
+loop-again c = ⊎-elim (λ w. rw (w .3) (search (most-on, needs))) (λ w. rw (w .1) (search (most-off, needs))) (c .if1 .came)
 
 returns : tie.Need-returns Inv-loop μ-loop
-returns c = search (most-all, needs)
+returns c = most-all (c .before .loop .inv) (omega arith)
 
 pub most-part-spec : {M : Type 1} → statement M
 most-part-spec =
@@ -51,11 +51,10 @@ most-part-spec =
     (tie.spec
     Inv-loop
     μ-loop
+    count-requires
     loop-holds
-    mul-l
-    element-copy-out-l
-    cast-larger
-    cast-larger-2
+    num-requires
+    den-requires
     larger-requires
     larger-requires-2
     add-k

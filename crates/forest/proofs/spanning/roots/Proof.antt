@@ -9,10 +9,10 @@ use Rattle.forest.proofs.spanning.roots.Statement.{statement}
 use Rattle.forest.proofs.spanning.roots.Tie as tie
 
 abbrev Inv-loop : tie.InvT-loop
-Inv-loop ports reach₀ via₀ labels count₀ p₀ reach via count p = Rooting ports p labels (forestOf reach via count)
+Inv-loop ports labels reach₀ via₀ count₀ p₀ reach via count p = Rooting ports p labels (forestOf reach via count)
 
 abbrev μ-loop : tie.MeasureT-loop
-μ-loop ports reach₀ via₀ labels count₀ p₀ reach via count p = ports - p
+μ-loop ports labels reach₀ via₀ count₀ p₀ reach via count p = ports - p
 
 loop-holds : tie.Need-loop-holds Inv-loop μ-loop
 loop-holds c = rooting-none (c .pre .1)
@@ -20,11 +20,11 @@ loop-holds c = rooting-none (c .pre .1)
 mul-if1 : tie.Need-mul-if1 Inv-loop μ-loop
 mul-if1 c = search needs
 
-array-read-if1 : tie.Need-array-read-if1 Inv-loop μ-loop
-array-read-if1 c = search needs
+element-copy-out-if1 : tie.Need-element-copy-out-if1 Inv-loop μ-loop
+element-copy-out-if1 c = search needs
 
 add-count : tie.Need-add-count Inv-loop μ-loop
-add-count c = omega (arith, rooting-few (c .before .before .loop .inv) (c .before .before .before .pre .0) (c .before .loop-test .taken))
+add-count c = omega (arith, rooting-few (c .before .before .before .loop .inv) (c .before .before .before .before .pre .0) (c .before .before .loop-test .taken))
 
 mul-reach : tie.Need-mul-reach Inv-loop μ-loop
 mul-reach c = search needs
@@ -46,8 +46,8 @@ loop-less c = search needs
 
 loop-again : tie.Need-loop-again Inv-loop μ-loop
 loop-again c = ⊎-elim
-    (λ w. rw (w .3, w .2, w .1) (rooting-on (c .before .before .loop .inv) (c .before .before .before .pre .0) (c .before .loop-test .taken) (w .0 .taken)))
-    (λ w. rw (w .3, w .2, w .1) (rooting-off (c .before .before .loop .inv) (c .before .before .before .pre .0) (c .before .loop-test .taken) (w .0 .left)))
+    (λ w. rw (w .3, w .2, w .1) (rooting-on (c .before .before .before .loop .inv) (c .before .before .before .before .pre .0) (c .before .before .loop-test .taken) (w .0 .taken)))
+    (λ w. rw (w .3, w .2, w .1) (rooting-off (c .before .before .before .loop .inv) (c .before .before .before .before .pre .0) (c .before .before .loop-test .taken) (w .0 .left)))
     (c .if1 .came)
 
 returns : tie.Need-returns Inv-loop μ-loop
@@ -61,7 +61,7 @@ roots-spec =
     μ-loop
     loop-holds
     mul-if1
-    array-read-if1
+    element-copy-out-if1
     add-count
     mul-reach
     element-write-reach

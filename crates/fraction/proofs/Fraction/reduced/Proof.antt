@@ -1,22 +1,29 @@
--- Both parts are divided by their greatest common divisor, which is above zero. Assumes nothing.
+-- Parts without a common divisor stay; others are divided by their greatest common divisor, which is above zero. Assumes nothing.
 use borrow.Author.Needs.{needs}
-use Rattle.fraction.specs.Gcd.{gcd-positive}
-use Rattle.fraction.specs.Lowest.{lowestTerms}
+use mathlib.Core.Path.{_∙_, sym}
+use Rattle.fraction.specs.Gcd.{gcd-positive, gcd-one}
+use Rattle.fraction.specs.Lowest.{lowestTerms, lowest-already}
 use Rattle.fraction.proofs.Fraction.reduced.Statement.{statement}
 use Rattle.fraction.proofs.Fraction.reduced.Tie as tie
+
+returns : tie.Need-returns
+returns c = rw (c .if1 .taken) (lowest-already (gcd-one (c .before .args .num)))
 
 greatest-common-divisor-requires : tie.Need-greatest-common-divisor-requires
 greatest-common-divisor-requires c κs = search needs
 
-div-t4 : tie.Need-div-t4
-div-t4 c = rw (c .greatest-common-divisor .ensures) (gcd-positive (c .before .args .num) (c .before .args .den) (c .before .pre))
+returns-2 : tie.Need-returns-2
+returns-2 c = lowest-already (sym (c .before .greatest-common-divisor .ensures) ∙ c .if2 .taken)
 
 div-t5 : tie.Need-div-t5
-div-t5 c = rw (c .greatest-common-divisor .ensures) (gcd-positive (c .before .args .num) (c .before .args .den) (c .before .pre))
+div-t5 c = rw (c .before .greatest-common-divisor .ensures) (gcd-positive (c .before .before .before .args .num) (c .before .before .before .args .den) (c .before .before .before .pre))
 
-returns : tie.Need-returns
+div-t6 : tie.Need-div-t6
+div-t6 c = rw (c .before .greatest-common-divisor .ensures) (gcd-positive (c .before .before .before .args .num) (c .before .before .before .args .den) (c .before .before .before .pre))
+
+returns-3 : tie.Need-returns-3
 unfolding lowestTerms
-returns c = rw (c .greatest-common-divisor .ensures)
+returns-3 c = rw (c .before .greatest-common-divisor .ensures)
 
 pub reduced-spec : {M : Type 1} → statement M
-reduced-spec = tie.close (tie.spec greatest-common-divisor-requires div-t4 div-t5 returns)
+reduced-spec = tie.close (tie.spec returns greatest-common-divisor-requires returns-2 div-t5 div-t6 returns-3)

@@ -16,7 +16,7 @@ enum-told : tie.Need-enum-told
 enum-told c = search needs
 
 time-requires : tie.Need-time-requires
-time-requires c κs = (labelled (c .before .before .before .before .before .before .ratios-of .ensures) (c .before .before .before .before .before .before .before .before .before .pre .0) (c .before .before .before .enum-told .given .1), c .before .before .before .before .before .before .before .before .before .pre .1)
+time-requires c κs = (labelled (c .before .before .before .before .before .before .before .before .ratios-of .ensures) (c .before .before .before .before .before .before .before .before .before .before .before .before .before .pre .0) (c .before .before .before .before .before .enum-told .given .1), c .before .before .before .before .before .before .before .before .before .before .before .before .before .pre .1)
 
 enum-known-agreement : tie.Need-enum-known-agreement
 enum-known-agreement c = search needs
@@ -31,7 +31,7 @@ slice-aggregate-write-loop : tie.Need-slice-aggregate-write-loop
 slice-aggregate-write-loop c = simp length-take (omega (arith, disagrees (c .before .before .before .before .before .before .ratios-of .ensures) (c .before .before .before .agreement .given .1) .few))
 
 write-loop-requires : tie.Need-write-loop-requires
-write-loop-requires c κs = simp length-take (omega (arith, disagrees (c .before .before .before .before .before .before .ratios-of .ensures) (c .before .before .before .agreement .given .1) .few, c .before .before .before .before .before .before .before .before .before .pre .1))
+write-loop-requires c κs = simp length-take (omega (arith, disagrees (c .before .before .before .before .before .before .ratios-of .ensures) (c .before .before .before .agreement .given .1) .few, c .before .before .before .before .before .before .before .before .before .before .before .pre .1))
 
 enum-told-2 : tie.Need-enum-told-2
 enum-told-2 c = search needs

@@ -1,12 +1,28 @@
--- A table that the small room is too small for has the large one. Assumes nothing.
+-- The room suffices for the table. Assumes nothing.
 use mathlib.Core.Path.{refl}
-use Rattle.graph.proofs.analysis.Outcomes.{table-room}
+use native.Mathlib.Omega.{arith}
 use borrow.Author.Needs.{needs}
+use Rattle.constraints.specs.ArrangedLaws.{labels-sortable}
 use Rattle.graph.proofs.analysis.time.Statement.{statement}
 use Rattle.graph.proofs.analysis.time.Tie as tie
 
-time-large-requires : tie.Need-time-large-requires
-time-large-requires c κs = search needs
+count-requires : tie.Need-count-requires
+count-requires c κs = search needs
+
+count-requires-2 : tie.Need-count-requires-2
+count-requires-2 c κs = search needs
+
+slice-aggregate-sort-members : tie.Need-slice-aggregate-sort-members
+slice-aggregate-sort-members c = search needs
+
+sort-members-requires : tie.Need-sort-members-requires
+sort-members-requires c κs = (labels-sortable (c .before .before .before .before .before .before .before .before .pre .0), (c .before .before .before .before .count .ensures, (omega (arith, c .before .before .before .before .before .before .before .before .pre .0 .components .long, c .before .before .before .before .before .before .before .before .pre .0 .well-formed .few-ports), (omega (arith, c .before .before .before .before .before .before .before .before .pre .0 .well-formed .few-ports), refl))))
+
+slice-aggregate-time-small : tie.Need-slice-aggregate-time-small
+slice-aggregate-time-small c = search needs
+
+time-small-requires : tie.Need-time-small-requires
+time-small-requires c κs = (c .before .before .before .before .before .before .before .before .before .before .before .before .before .before .before .pre .0, (record { members₀ = _; most = _; sorted = c .before .before .before .before .before .before .sort-members .ensures }, (omega (arith, c .before .before .before .before .before .before .sort-members .ensures .most-is), (omega arith, c .before .before .before .before .before .before .before .before .before .before .before .before .before .before .before .pre .1))))
 
 same-length : tie.Need-same-length
 same-length c = search needs
@@ -14,8 +30,11 @@ same-length c = search needs
 returns : tie.Need-returns
 returns c = search needs
 
-time-large-requires-2 : tie.Need-time-large-requires-2
-time-large-requires-2 c κs = search needs
+slice-aggregate-time-middle : tie.Need-slice-aggregate-time-middle
+slice-aggregate-time-middle c = search needs
+
+time-middle-requires : tie.Need-time-middle-requires
+time-middle-requires c κs = (c .before .before .before .before .before .before .before .before .before .before .before .before .before .before .before .before .pre .0, (record { members₀ = _; most = _; sorted = c .before .before .before .before .before .before .before .sort-members .ensures }, (omega (arith, c .before .before .before .before .before .before .before .sort-members .ensures .most-is), (omega arith, c .before .before .before .before .before .before .before .before .before .before .before .before .before .before .before .before .pre .1))))
 
 same-length-2 : tie.Need-same-length-2
 same-length-2 c = search needs
@@ -23,23 +42,11 @@ same-length-2 c = search needs
 returns-2 : tie.Need-returns-2
 returns-2 c = search needs
 
-slice-aggregate-time-in : tie.Need-slice-aggregate-time-in
-slice-aggregate-time-in c = search needs
+slice-aggregate-time-large : tie.Need-slice-aggregate-time-large
+slice-aggregate-time-large c = search needs
 
-slice-aggregate-time-in-2 : tie.Need-slice-aggregate-time-in-2
-slice-aggregate-time-in-2 c = search needs
-
-slice-aggregate-time-in-3 : tie.Need-slice-aggregate-time-in-3
-slice-aggregate-time-in-3 c = search needs
-
-slice-aggregate-time-in-4 : tie.Need-slice-aggregate-time-in-4
-slice-aggregate-time-in-4 c = search needs
-
-slice-aggregate-time-in-5 : tie.Need-slice-aggregate-time-in-5
-slice-aggregate-time-in-5 c = search needs
-
-time-in-requires : tie.Need-time-in-requires
-time-in-requires c κs = (c .before .before .before .before .before .before .before .before .before .before .before .pre .0, (table-room (c .before .before .before .before .before .before .before .before .if1 .left) (c .before .before .before .before .before .before .if2 .left) refl refl refl refl refl, c .before .before .before .before .before .before .before .before .before .before .before .pre .1))
+time-large-requires : tie.Need-time-large-requires
+time-large-requires c κs = (c .before .before .before .before .before .before .before .before .before .before .before .before .before .before .before .pre .0, (record { members₀ = _; most = _; sorted = c .before .before .before .before .before .before .sort-members .ensures }, c .before .before .before .before .before .before .before .before .before .before .before .before .before .before .before .pre .1))
 
 same-length-3 : tie.Need-same-length-3
 same-length-3 c = search needs
@@ -51,17 +58,19 @@ pub time-spec : {M : Type 1} → statement M
 time-spec =
     tie.close
     (tie.spec
-    time-large-requires
+    count-requires
+    count-requires-2
+    slice-aggregate-sort-members
+    sort-members-requires
+    slice-aggregate-time-small
+    time-small-requires
     same-length
     returns
-    time-large-requires-2
+    slice-aggregate-time-middle
+    time-middle-requires
     same-length-2
     returns-2
-    slice-aggregate-time-in
-    slice-aggregate-time-in-2
-    slice-aggregate-time-in-3
-    slice-aggregate-time-in-4
-    slice-aggregate-time-in-5
-    time-in-requires
+    slice-aggregate-time-large
+    time-large-requires
     same-length-3
     returns-3)

@@ -1,12 +1,10 @@
--- The room is that of any table. Assumes nothing.
+-- The room is that of every table. Assumes nothing.
 use mathlib.Core.Path.{refl}
-use Rattle.graph.proofs.analysis.Outcomes.{table-room}
 use borrow.Author.Needs.{needs}
+use Rattle.graph.proofs.analysis.Outcomes.{table-room}
+use Rattle.constraints.specs.ArrangedLaws.{most-members}
 use Rattle.graph.proofs.analysis.time_large.Statement.{statement}
 use Rattle.graph.proofs.analysis.time_large.Tie as tie
-
-link-room-requires : tie.Need-link-room-requires
-link-room-requires c κs = search needs
 
 edge-room-requires : tie.Need-edge-room-requires
 edge-room-requires c κs = search needs
@@ -33,7 +31,7 @@ slice-aggregate-time-in-5 : tie.Need-slice-aggregate-time-in-5
 slice-aggregate-time-in-5 c = search needs
 
 time-in-requires : tie.Need-time-in-requires
-time-in-requires c κs = (c .before .before .before .before .before .before .before .before .before .before .before .pre .0, (table-room (c .before .before .before .before .before .before .before .before .before .before .before .pre .0 .well-formed .few-ports) (c .before .before .before .before .before .before .before .before .before .before .before .pre .0 .well-formed .few-links) (c .before .before .before .before .before .before .before .before .before .link-room .ensures) refl (c .before .before .before .before .before .before .before .before .edge-room .ensures) (c .before .before .before .before .before .before .before .row-room .ensures) (c .before .before .before .before .before .before .cost-room .ensures), c .before .before .before .before .before .before .before .before .before .before .before .pre .1))
+time-in-requires c κs = (c .before .before .before .before .before .before .before .before .before .before .before .before .before .pre .0, (c .before .before .before .before .before .before .before .before .before .before .before .before .before .pre .1 .0, (table-room 64 256 (most-members (c .before .before .before .before .before .before .before .before .before .before .before .before .before .pre .0)) (c .before .before .before .before .before .before .before .before .before .before .before .before .before .pre .0 .well-formed .few-links) refl refl (c .before .before .before .before .before .before .before .before .edge-room .ensures) (c .before .before .before .before .before .before .before .row-room .ensures) (c .before .before .before .before .before .before .cost-room .ensures), c .before .before .before .before .before .before .before .before .before .before .before .before .before .pre .1 .1)))
 
 same-length : tie.Need-same-length
 same-length c = search needs
@@ -45,7 +43,6 @@ pub time-large-spec : {M : Type 1} → statement M
 time-large-spec =
     tie.close
     (tie.spec
-    link-room-requires
     edge-room-requires
     row-room-requires
     cost-room-requires

@@ -1,6 +1,6 @@
 -- Each a/b tried is a limit that no smaller one serves, and the next is greater. Assumes nothing.
 use lib.ListN.{length}
-use Rattle.period.proofs.search.Searching.{Searching, limited, searching-first, searching-tries, searching-settled, searching-sums, searching-within, searching-blocked, searching-gains, searching-falls, searching-next}
+use Rattle.period.proofs.search.Searching.{Searching, searching-first, searching-tries, searching-settled, searching-sums, searching-within, searching-blocked, searching-gains, searching-falls, searching-next}
 use Rattle.period.proofs.search.Falls.{left}
 use Rattle.period.specs.Component.{mostRate}
 use borrow.Author.Needs.{needs}
@@ -17,11 +17,8 @@ abbrev μ-loop : tie.MeasureT-loop
 μ-loop ports limits edges rows₀ costs₀ starts₀ n none period₀ floor₀ limit₀ rows costs starts period floor limit =
     left mostRate (period .num) (period .den)
 
-greatest-limit-requires : tie.Need-greatest-limit-requires Inv-loop μ-loop
-greatest-limit-requires c κs = limited (c .before .before .before .before .before .before .pre .0)
-
 loop-holds : tie.Need-loop-holds Inv-loop μ-loop
-loop-holds c = searching-first _ (c .before .before .before .before .before .before .before .before .pre .0) (c .before .before .before .before .before .before .before .before .pre .1) (c .before .greatest-limit .ensures) (record { ordered = omega arith; within = omega arith; long = refl })
+loop-holds c = searching-first _ (c .before .before .before .before .before .before .before .pre .0) (c .before .before .before .before .before .before .before .pre .1 .0) (c .before .before .before .before .before .before .before .pre .1 .1) (record { ordered = omega arith; within = omega arith; long = refl })
 
 slice-aggregate-try-at : tie.Need-slice-aggregate-try-at Inv-loop μ-loop
 slice-aggregate-try-at c = search needs
@@ -89,7 +86,6 @@ least-period-spec =
     (tie.spec
     Inv-loop
     μ-loop
-    greatest-limit-requires
     loop-holds
     slice-aggregate-try-at
     try-at-requires

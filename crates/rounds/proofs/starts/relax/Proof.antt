@@ -23,6 +23,15 @@ mul-to c = search needs
 shared-slice-read-to : tie.Need-shared-slice-read-to
 shared-slice-read-to c = search needs
 
+add-loss : tie.Need-add-loss
+add-loss c = search needs
+
+mul-loss : tie.Need-mul-loss
+mul-loss c = search needs
+
+shared-slice-read-loss : tie.Need-shared-slice-read-loss
+shared-slice-read-loss c = search needs
+
 mul-reach : tie.Need-mul-reach
 mul-reach c = search needs
 
@@ -41,29 +50,20 @@ shared-slice-read-reach-2 c = search needs
 add-reach-2 : tie.Need-add-reach-2
 add-reach-2 c = search needs
 
-add-loss : tie.Need-add-loss
-add-loss c = search needs
+mul-if1 : tie.Need-mul-if1
+mul-if1 c = search needs
 
-mul-loss : tie.Need-mul-loss
-mul-loss c = search needs
+slice-read-if1 : tie.Need-slice-read-if1
+slice-read-if1 c = search needs
 
-shared-slice-read-loss : tie.Need-shared-slice-read-loss
-shared-slice-read-loss c = search needs
+add-if1 : tie.Need-add-if1
+add-if1 c = search needs
 
 returns : tie.Need-returns
 returns c = raise-same _ _ _ (omega arith)
 
-sub-start : tie.Need-sub-start
-sub-start c = search needs
-
-mul-if2 : tie.Need-mul-if2
-mul-if2 c = search needs
-
-slice-read-if2 : tie.Need-slice-read-if2
-slice-read-if2 c = search needs
-
-returns-2 : tie.Need-returns-2
-returns-2 c = raise-same _ _ _ (omega arith)
+sub-new : tie.Need-sub-new
+sub-new c = search needs
 
 mul-new : tie.Need-mul-new
 mul-new c = search needs
@@ -74,8 +74,8 @@ slice-write-new c = search needs
 same-length : tie.Need-same-length
 same-length c = search needs
 
-returns-3 : tie.Need-returns-3
-returns-3 c = raise-more _ _ _ (omega arith)
+returns-2 : tie.Need-returns-2
+returns-2 c = raise-more _ _ _ (omega arith)
 
 pub relax-spec : {M : Type 1} → statement M
 relax-spec =
@@ -87,21 +87,21 @@ relax-spec =
     add-to
     mul-to
     shared-slice-read-to
+    add-loss
+    mul-loss
+    shared-slice-read-loss
     mul-reach
     shared-slice-read-reach
     add-reach
     mul-reach-2
     shared-slice-read-reach-2
     add-reach-2
-    add-loss
-    mul-loss
-    shared-slice-read-loss
+    mul-if1
+    slice-read-if1
+    add-if1
     returns
-    sub-start
-    mul-if2
-    slice-read-if2
-    returns-2
+    sub-new
     mul-new
     slice-write-new
     same-length
-    returns-3)
+    returns-2)

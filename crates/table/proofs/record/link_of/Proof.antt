@@ -7,17 +7,11 @@ use Rattle.table.proofs.record.link_of.Tie as tie
 two-bytes-requires : tie.Need-two-bytes-requires
 two-bytes-requires c κs = search needs
 
-cast-from : tie.Need-cast-from
-cast-from c = search needs
-
 add-two-bytes : tie.Need-add-two-bytes
 add-two-bytes c = search needs
 
 two-bytes-requires-2 : tie.Need-two-bytes-requires-2
 two-bytes-requires-2 c κs = search needs
-
-cast-to : tie.Need-cast-to
-cast-to c = search needs
 
 add-two-bytes-2 : tie.Need-add-two-bytes-2
 add-two-bytes-2 c = search needs
@@ -25,17 +19,11 @@ add-two-bytes-2 c = search needs
 two-bytes-requires-3 : tie.Need-two-bytes-requires-3
 two-bytes-requires-3 c κs = search needs
 
-cast-num : tie.Need-cast-num
-cast-num c = search needs
-
 add-two-bytes-3 : tie.Need-add-two-bytes-3
 add-two-bytes-3 c = search needs
 
 two-bytes-requires-4 : tie.Need-two-bytes-requires-4
 two-bytes-requires-4 c κs = search needs
-
-cast-den : tie.Need-cast-den
-cast-den c = search needs
 
 returns : tie.Need-returns
 unfolding linkOf
@@ -46,14 +34,10 @@ link-of-spec =
     tie.close
     (tie.spec
     two-bytes-requires
-    cast-from
     add-two-bytes
     two-bytes-requires-2
-    cast-to
     add-two-bytes-2
     two-bytes-requires-3
-    cast-num
     add-two-bytes-3
     two-bytes-requires-4
-    cast-den
     returns)

@@ -7,23 +7,15 @@ use Rattle.table.proofs.record.port_of.Tie as tie
 two-bytes-requires : tie.Need-two-bytes-requires
 two-bytes-requires c κs = search needs
 
-cast-num : tie.Need-cast-num
-cast-num c = search needs
-
 add-two-bytes : tie.Need-add-two-bytes
 add-two-bytes c = search needs
 
 two-bytes-requires-2 : tie.Need-two-bytes-requires-2
 two-bytes-requires-2 c κs = search needs
 
-cast-den : tie.Need-cast-den
-cast-den c = search needs
-
 returns : tie.Need-returns
 unfolding portOf
 returns c = rw (c .before .two-bytes .ensures .0, c .two-bytes2 .ensures .0)
 
 pub port-of-spec : {M : Type 1} → statement M
-port-of-spec =
-    tie.close
-    (tie.spec two-bytes-requires cast-num add-two-bytes two-bytes-requires-2 cast-den returns)
+port-of-spec = tie.close (tie.spec two-bytes-requires add-two-bytes two-bytes-requires-2 returns)

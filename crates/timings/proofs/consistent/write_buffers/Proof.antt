@@ -1,5 +1,7 @@
 -- Each turn of the loop writes the record of one link more behind the others, where that link is a buffer. Assumes nothing.
 use Prim.Native.Nat.{_-_}
+use lib.ListN.{length}
+use Rattle.table.specs.Slices.{linksOf, tableOf}
 use mathlib.Core.Logic.{⊎-elim}
 use native.Mathlib.Omega.{arith}
 use Rattle.timings.specs.Sizes.{buffer-numbers}
@@ -9,25 +11,25 @@ use Rattle.timings.proofs.consistent.write_buffers.Statement.{statement
 use Rattle.timings.proofs.consistent.write_buffers.Tie as tie
 
 abbrev Inv-loop : tie.InvT-loop
-Inv-loop timing answer₀ t weights at₀ k₀ answer at k = BuffersWritten t weights timing answer₀ answer at k
+Inv-loop ports links labels weights timing answer₀ count at₀ k₀ answer at k = BuffersWritten (tableOf ports links) weights timing answer₀ answer at k
 
 abbrev μ-loop : tie.MeasureT-loop
-μ-loop timing answer₀ t weights at₀ k₀ answer at k = t .«link_count» - k
+μ-loop ports links labels weights timing answer₀ count at₀ k₀ answer at k = length (linksOf links) - k
+
+count-requires : tie.Need-count-requires Inv-loop μ-loop
+count-requires c κs = search needs
 
 loop-holds : tie.Need-loop-holds Inv-loop μ-loop
 loop-holds c = search (buffers-none, needs)
 
-mul-l : tie.Need-mul-l Inv-loop μ-loop
-mul-l c = search needs
+buffer-requires : tie.Need-buffer-requires Inv-loop μ-loop
+buffer-requires c κs = search needs
 
-element-copy-out-l : tie.Need-element-copy-out-l Inv-loop μ-loop
-element-copy-out-l c = search needs
-
-slice-aggregate-size-of : tie.Need-slice-aggregate-size-of Inv-loop μ-loop
-slice-aggregate-size-of c = search needs
+at-requires : tie.Need-at-requires Inv-loop μ-loop
+at-requires c κs = search needs
 
 size-of-requires : tie.Need-size-of-requires Inv-loop μ-loop
-size-of-requires c κs = (search needs, buffer-numbers (c .before .before .before .before .before .before .before .pre .0) (record { below = c .before .before .before .loop-test .taken }))
+size-of-requires c κs = (search needs, rw (c .before .at .ensures) (buffer-numbers (c .before .before .before .before .before .before .before .before .before .before .before .pre .0) (record { below = omega arith })))
 
 sub-write-buffer : tie.Need-sub-write-buffer Inv-loop μ-loop
 sub-write-buffer c = search needs
@@ -42,7 +44,7 @@ write-buffer-requires : tie.Need-write-buffer-requires Inv-loop μ-loop
 write-buffer-requires c κs = search needs
 
 add-at : tie.Need-add-at Inv-loop μ-loop
-add-at c = let w = buffers-on (c .before .before .before .before .before .before .before .before .before .loop .inv) (c .before .before .before .before .before .before .before .before .loop-test .taken) (c .before .before .before .before .before .before .before .before .before .before .before .before .pre .1) (c .before .before .before .before .before .before .if1 .taken) (c .before .before .before .before .size-of .ensures) (c .before .before .write-buffer .ensures) in omega (arith, w .so-far .room)
+add-at c = let w = buffers-on (c .before .before .before .before .before .before .before .before .before .before .loop .inv) (omega arith) (c .before .before .before .before .before .before .before .before .before .before .before .before .before .before .before .before .pre .1) (c .before .before .before .before .before .before .before .before .buffer .ensures) (c .before .before .before .before .before .before .before .if1 .taken) (c .before .before .before .before .before .before .at .ensures) (c .before .before .before .before .size-of .ensures) (c .before .before .write-buffer .ensures) in omega (arith, w .so-far .room, c .before .before .before .before .before .before .before .before .before .before .before .before .before .before .before .before .pre .0 .well-formed .few-links)
 
 add-k : tie.Need-add-k Inv-loop μ-loop
 add-k c = search needs
@@ -52,15 +54,15 @@ loop-less c = search needs
 
 loop-again : tie.Need-loop-again Inv-loop μ-loop
 loop-again c = ⊎-elim
-    (λ w. rw (w .7, w .8) (buffers-on (c .before .before .before .loop .inv) (c .before .before .loop-test .taken) (c .before .before .before .before .before .before .pre .1) (w .0 .taken) (w .2 .ensures) (w .4 .ensures)))
-    (λ w. rw (w .1, w .2) (buffers-off (c .before .before .before .loop .inv) (c .before .before .loop-test .taken) (w .0 .left)))
+    (λ w. rw (w .8, w .9) (buffers-on (c .before .before .before .loop .inv) (omega arith) (c .before .before .before .before .before .before .before .before .before .pre .1) (c .before .buffer .ensures) (w .0 .taken) (w .1 .ensures) (w .3 .ensures) (w .5 .ensures)))
+    (λ w. rw (w .1, w .2) (buffers-off (c .before .before .before .loop .inv) (omega arith) (c .before .buffer .ensures) (w .0 .left)))
     (c .if1 .came)
 
 same-length : tie.Need-same-length Inv-loop μ-loop
 same-length c = search needs
 
 returns : tie.Need-returns Inv-loop μ-loop
-returns c = search (buffers-all, needs)
+returns c = buffers-all (c .before .before .before .before .before .before .before .args .labels .now) (c .before .loop .inv) (omega arith)
 
 pub write-buffers-spec : {M : Type 1} → statement M
 write-buffers-spec =
@@ -68,10 +70,10 @@ write-buffers-spec =
     (tie.spec
     Inv-loop
     μ-loop
+    count-requires
     loop-holds
-    mul-l
-    element-copy-out-l
-    slice-aggregate-size-of
+    buffer-requires
+    at-requires
     size-of-requires
     sub-write-buffer
     part-write-buffer-start

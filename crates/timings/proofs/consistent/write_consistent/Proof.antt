@@ -2,6 +2,8 @@
 use native.Mathlib.Omega.{arith}
 use lib.ListN.{length-take, length-drop}
 use borrow.Author.Needs.{needs}
+use Rattle.table.specs.Slices.{tableOf}
+use Rattle.table.specs.Table.{linkCount}
 use Rattle.answers.specs.Room.{port-records, buffer-records}
 use Rattle.timings.specs.Timings.{timingOf}
 use Rattle.records.specs.WrittenLaws.{written-append}
@@ -21,14 +23,15 @@ part-write-buffers-end : tie.Need-part-write-buffers-end
 part-write-buffers-end c = search needs
 
 write-buffers-requires : tie.Need-write-buffers-requires
-write-buffers-requires c κs = (c .before .before .before .before .before .before .before .pre .0, let place = rw port-records at (c .before .before .before .write-ports .ensures .counted) in simp (length-take, length-drop) (omega arith))
+write-buffers-requires c κs = (c .before .before .before .before .before .before .before .before .before .pre .0, let place = rw port-records at (c .before .before .before .write-ports .ensures .counted) in simp (length-take, length-drop) (omega arith))
 
 add-result : tie.Need-add-result
 add-result c =
     let place = rw port-records at (c .before .before .before .before .before .before .write-ports .ensures .counted) in
-    let args = c .before .before .before .before .before .before .before .before .before .before .args in
-    let all = timingOf (args .t) (args .labels) (args .weights) (args .timing .now) in
-    omega (arith, buffer-records (args .t) all (args .t .«link_count»), c .before .before .write-buffers .ensures .counted)
+    let args = c .before .before .before .before .before .before .before .before .before .before .before .before .args in
+    let t = tableOf (args .ports .now) (args .links .now) in
+    let all = timingOf t (args .labels .now) (args .weights .now) (args .timing .now) in
+    omega (arith, buffer-records t all (linkCount t), c .before .before .write-buffers .ensures .counted)
 
 same-length : tie.Need-same-length
 same-length c = search needs

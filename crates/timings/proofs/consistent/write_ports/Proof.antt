@@ -1,16 +1,21 @@
 -- Each turn of the loop writes the record of one port more behind the others. Assumes nothing.
 use Prim.Native.Nat.{_-_}
+use Rattle.table.specs.Slices.{tableOf}
 use native.Mathlib.Omega.{arith}
 use borrow.Author.Needs.{needs}
+use Rattle.table.specs.Table.{portCount}
 use Rattle.timings.proofs.consistent.Ports.{PortsWritten, ports-none, ports-on, ports-all}
 use Rattle.timings.proofs.consistent.write_ports.Statement.{statement}
 use Rattle.timings.proofs.consistent.write_ports.Tie as tie
 
 abbrev Inv-loop : tie.InvT-loop
-Inv-loop t timing answer₀ labels weights at₀ p₀ answer at p = PortsWritten t labels weights timing answer₀ answer at p
+Inv-loop ports links labels weights timing answer₀ count at₀ p₀ answer at p = PortsWritten (tableOf ports links) labels weights timing answer₀ answer at p
 
 abbrev μ-loop : tie.MeasureT-loop
-μ-loop t timing answer₀ labels weights at₀ p₀ answer at p = t .«port_count» - p
+μ-loop ports links labels weights timing answer₀ count at₀ p₀ answer at p = portCount (tableOf ports links) - p
+
+count-requires : tie.Need-count-requires Inv-loop μ-loop
+count-requires c κs = search needs
 
 loop-holds : tie.Need-loop-holds Inv-loop μ-loop
 loop-holds c = search (ports-none, needs)
@@ -18,8 +23,8 @@ loop-holds c = search (ports-none, needs)
 mul-component : tie.Need-mul-component Inv-loop μ-loop
 mul-component c = search needs
 
-array-read-component : tie.Need-array-read-component Inv-loop μ-loop
-array-read-component c = search needs
+element-copy-out-component : tie.Need-element-copy-out-component Inv-loop μ-loop
+element-copy-out-component c = search needs
 
 mul-a : tie.Need-mul-a Inv-loop μ-loop
 mul-a c = search needs
@@ -66,14 +71,14 @@ part-write-port-end c = search needs
 mul-write-port : tie.Need-mul-write-port Inv-loop μ-loop
 mul-write-port c = search needs
 
-array-read-write-port : tie.Need-array-read-write-port Inv-loop μ-loop
-array-read-write-port c = search needs
+element-copy-out-write-port : tie.Need-element-copy-out-write-port Inv-loop μ-loop
+element-copy-out-write-port c = search needs
 
 write-port-requires : tie.Need-write-port-requires Inv-loop μ-loop
 write-port-requires c κs = search needs
 
 add-at : tie.Need-add-at Inv-loop μ-loop
-add-at c = let w = ports-on (c .before .before .before .before .before .before .before .before .before .before .before .before .pre .0) (c .before .before .before .before .before .before .before .before .before .before .before .before .pre .1) (c .before .before .before .before .before .before .before .before .before .loop .inv) (c .before .before .before .before .before .before .before .if1 .taken) (c .before .before .write-port .ensures) in omega (arith, w .so-far .room)
+add-at c = let w = ports-on (c .before .before .before .before .before .before .before .before .before .before .before .before .before .before .before .before .pre .0) (c .before .before .before .before .before .before .before .before .before .before .before .before .before .before .before .before .pre .1) (c .before .before .before .before .before .before .before .before .before .before .loop .inv) (omega arith) (c .before .before .write-port .ensures) in omega (arith, w .so-far .room)
 
 add-p : tie.Need-add-p Inv-loop μ-loop
 add-p c = search needs
@@ -82,13 +87,13 @@ loop-less : tie.Need-loop-less Inv-loop μ-loop
 loop-less c = search needs
 
 loop-again : tie.Need-loop-again Inv-loop μ-loop
-loop-again c = search (ports-on, needs)
+loop-again c = ports-on (c .before .before .before .before .before .before .before .before .before .before .before .before .before .before .before .before .pre .0) (c .before .before .before .before .before .before .before .before .before .before .before .before .before .before .before .before .pre .1) (c .before .before .before .before .before .before .before .before .before .before .loop .inv) (omega arith) (c .before .before .write-port .ensures)
 
 same-length : tie.Need-same-length Inv-loop μ-loop
 same-length c = search needs
 
 returns : tie.Need-returns Inv-loop μ-loop
-returns c = search (ports-all, needs)
+returns c = ports-all (c .before .loop .inv) (omega arith)
 
 pub write-ports-spec : {M : Type 1} → statement M
 write-ports-spec =
@@ -96,9 +101,10 @@ write-ports-spec =
     (tie.spec
     Inv-loop
     μ-loop
+    count-requires
     loop-holds
     mul-component
-    array-read-component
+    element-copy-out-component
     mul-a
     mul-a-2
     shared-slice-read-a
@@ -114,7 +120,7 @@ write-ports-spec =
     part-write-port-start
     part-write-port-end
     mul-write-port
-    array-read-write-port
+    element-copy-out-write-port
     write-port-requires
     add-at
     add-p

@@ -5,12 +5,6 @@ use borrow.Author.Needs.{needs}
 use Rattle.timings.proofs.sizes.size_of.Statement.{statement}
 use Rattle.timings.proofs.sizes.size_of.Tie as tie
 
-cast-from : tie.Need-cast-from
-cast-from c = search needs
-
-cast-to : tie.Need-cast-to
-cast-to c = search needs
-
 mul-a : tie.Need-mul-a
 mul-a c = search needs
 
@@ -45,10 +39,10 @@ shared-slice-read-fewest : tie.Need-shared-slice-read-fewest
 shared-slice-read-fewest c = search needs
 
 mul-fewest-3 : tie.Need-mul-fewest-3
-mul-fewest-3 c = let products = buffer-products (c .before .before .before .before .before .before .before .before .before .pre .1) in omega arith
+mul-fewest-3 c = let products = buffer-products (c .before .before .before .before .before .before .before .pre .1) in omega arith
 
 add-fewest-2 : tie.Need-add-fewest-2
-add-fewest-2 c = let products = buffer-products (c .before .before .before .before .before .before .before .before .before .pre .1) in omega arith
+add-fewest-2 c = let products = buffer-products (c .before .before .before .before .before .before .before .pre .1) in omega arith
 
 mul-fewest-4 : tie.Need-mul-fewest-4
 mul-fewest-4 c = search needs
@@ -63,10 +57,10 @@ shared-slice-read-fewest-2 : tie.Need-shared-slice-read-fewest-2
 shared-slice-read-fewest-2 c = search needs
 
 mul-fewest-6 : tie.Need-mul-fewest-6
-mul-fewest-6 c = let products = buffer-products (c .before .before .before .before .before .before .before .before .before .before .before .pre .1) in omega arith
+mul-fewest-6 c = let products = buffer-products (c .before .before .before .before .before .before .before .before .before .pre .1) in omega arith
 
 add-fewest-4 : tie.Need-add-fewest-4
-add-fewest-4 c = let products = buffer-products (c .before .before .before .before .before .before .before .before .before .before .before .pre .1) in omega arith
+add-fewest-4 c = let products = buffer-products (c .before .before .before .before .before .before .before .before .before .pre .1) in omega arith
 
 mul-fewest-7 : tie.Need-mul-fewest-7
 mul-fewest-7 c = search needs
@@ -75,10 +69,10 @@ shared-slice-read-fewest-3 : tie.Need-shared-slice-read-fewest-3
 shared-slice-read-fewest-3 c = search needs
 
 mul-fewest-8 : tie.Need-mul-fewest-8
-mul-fewest-8 c = let products = buffer-products (c .before .before .before .before .before .before .before .before .before .before .before .before .pre .1) in omega arith
+mul-fewest-8 c = let products = buffer-products (c .before .before .before .before .before .before .before .before .before .before .pre .1) in omega arith
 
 fewest-requires : tie.Need-fewest-requires
-fewest-requires c κs = buffer-products (c .before .before .before .before .before .before .before .before .before .before .before .before .pre .1) .period-some
+fewest-requires c κs = buffer-products (c .before .before .before .before .before .before .before .before .before .before .pre .1) .period-some
 
 returns : tie.Need-returns
 returns c = search needs
@@ -87,8 +81,6 @@ pub size-of-spec : {M : Type 1} → statement M
 size-of-spec =
     tie.close
     (tie.spec
-    cast-from
-    cast-to
     mul-a
     mul-a-2
     shared-slice-read-a

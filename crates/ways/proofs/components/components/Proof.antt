@@ -1,6 +1,7 @@
 -- The labels stay sound, and each pass that changes one lowers their sum, the measure. Assumes nothing.
 use Rattle.ways.proofs.components.Lowest.{lowest-all}
 use Rattle.ways.proofs.components.Owned.{own-sound}
+use Rattle.table.specs.Slices.{tableOf}
 use Rattle.ways.specs.Passes.{Sound}
 use Rattle.rounds.specs.Lists.{sum}
 use borrow.Author.Needs.{needs}
@@ -8,10 +9,10 @@ use Rattle.ways.proofs.components.components.Statement.{statement}
 use Rattle.ways.proofs.components.components.Tie as tie
 
 abbrev Inv-loop : tie.InvT-loop
-Inv-loop t labels₀ labels = Sound t labels
+Inv-loop ports links labels₀ labels = Sound (tableOf ports links) labels
 
 abbrev μ-loop : tie.MeasureT-loop
-μ-loop t labels₀ labels = sum (λ v. v) labels
+μ-loop ports links labels₀ labels = sum (λ v. v) labels
 
 own-labels-requires : tie.Need-own-labels-requires Inv-loop μ-loop
 own-labels-requires c κs = search needs
@@ -29,7 +30,7 @@ loop-again : tie.Need-loop-again Inv-loop μ-loop
 loop-again c = search needs
 
 returns : tie.Need-returns Inv-loop μ-loop
-returns c = lowest-all (c .before .pass .ensures .even (c .if1 .left)) (c .before .before .before .before .before .pre) (c .before .pass .ensures .sound)
+returns c = lowest-all (c .before .pass .ensures .even (c .if1 .left)) (c .before .before .before .before .before .before .before .pre) (c .before .pass .ensures .sound)
 
 pub components-spec : {M : Type 1} → statement M
 components-spec =

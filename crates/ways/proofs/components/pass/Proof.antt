@@ -1,42 +1,35 @@
 -- Each turn of the loop passes one link more. The measure is how many are left. Assumes nothing.
 use native.Mathlib.Omega.{arith}
+use Rattle.table.specs.Slices.{linksOf, tableOf}
 use Rattle.ways.proofs.components.Passing.{passed-none, passed-both, passed-on, passed-off, passed-all}
 use Rattle.ways.specs.Passes.{Passed}
 use borrow.Author.Needs.{needs}
 use mathlib.Core.Logic.{⊎-elim}
 use Prim.Native.Nat.{_-_}
+use lib.ListN.{length}
 use Rattle.ways.proofs.components.pass.Statement.{statement}
 use Rattle.ways.proofs.components.pass.Tie as tie
 
 abbrev Inv-loop : tie.InvT-loop
-Inv-loop labels₀ t changed₀ k₀ labels changed k = Passed t k labels₀ labels changed
+Inv-loop ports links labels₀ count changed₀ k₀ labels changed k = Passed (tableOf ports links) k labels₀ labels changed
 
 abbrev μ-loop : tie.MeasureT-loop
-μ-loop labels₀ t changed₀ k₀ labels changed k = t .«link_count» - k
+μ-loop ports links labels₀ count changed₀ k₀ labels changed k = length (linksOf links) - k
+
+count-requires : tie.Need-count-requires Inv-loop μ-loop
+count-requires c κs = search needs
 
 loop-holds : tie.Need-loop-holds Inv-loop μ-loop
-loop-holds c = search (passed-none, needs)
+loop-holds c = passed-none (c .before .before .before .pre .1)
 
-mul-from : tie.Need-mul-from Inv-loop μ-loop
-mul-from c = search needs
+from-requires : tie.Need-from-requires Inv-loop μ-loop
+from-requires c κs = search needs
 
-element-copy-out-from : tie.Need-element-copy-out-from Inv-loop μ-loop
-element-copy-out-from c = search needs
-
-cast-from : tie.Need-cast-from Inv-loop μ-loop
-cast-from c = omega (arith, passed-both (c .before .before .pre .0) (c .loop-test .taken) .one)
-
-mul-to : tie.Need-mul-to Inv-loop μ-loop
-mul-to c = search needs
-
-element-copy-out-to : tie.Need-element-copy-out-to Inv-loop μ-loop
-element-copy-out-to c = search needs
-
-cast-to : tie.Need-cast-to Inv-loop μ-loop
-cast-to c = omega (arith, passed-both (c .before .before .pre .0) (c .loop-test .taken) .other)
+to-requires : tie.Need-to-requires Inv-loop μ-loop
+to-requires c κs = search needs
 
 level-requires : tie.Need-level-requires Inv-loop μ-loop
-level-requires c κs = search (passed-both, needs)
+level-requires c κs = passed-both (c .before .before .before .before .before .before .before .before .pre .0) (omega arith) (c .before .from .ensures) (c .to .ensures)
 
 add-k : tie.Need-add-k Inv-loop μ-loop
 add-k c = search needs
@@ -46,12 +39,12 @@ loop-less c = search needs
 
 loop-again : tie.Need-loop-again Inv-loop μ-loop
 loop-again c = ⊎-elim
-    (λ w. rw (w .1) (passed-on (c .before .before .before .before .before .pre .0) (c .before .before .before .loop-test .taken) (c .before .before .before .before .loop .inv) (c .before .level .ensures) (w .0 .taken)))
-    (λ w. rw (w .1) (passed-off (c .before .before .before .before .before .pre .0) (c .before .before .before .loop-test .taken) (c .before .before .before .before .loop .inv) (c .before .level .ensures) (w .0 .left)))
+    (λ w. rw (w .1) (passed-on (c .before .before .before .before .before .before .before .before .before .before .pre .0) (omega arith) (c .before .before .before .from .ensures) (c .before .before .to .ensures) (c .before .before .before .before .before .before .loop .inv) (c .before .level .ensures) (w .0 .taken)))
+    (λ w. rw (w .1) (passed-off (c .before .before .before .before .before .before .before .before .before .before .pre .0) (omega arith) (c .before .before .before .from .ensures) (c .before .before .to .ensures) (c .before .before .before .before .before .before .loop .inv) (c .before .level .ensures) (w .0 .left)))
     (c .if1 .came)
 
 returns : tie.Need-returns Inv-loop μ-loop
-returns c = search (passed-all, needs)
+returns c = passed-all (c .before .loop .inv) (omega arith)
 
 pub pass-spec : {M : Type 1} → statement M
 pass-spec =
@@ -59,13 +52,10 @@ pass-spec =
     (tie.spec
     Inv-loop
     μ-loop
+    count-requires
     loop-holds
-    mul-from
-    element-copy-out-from
-    cast-from
-    mul-to
-    element-copy-out-to
-    cast-to
+    from-requires
+    to-requires
     level-requires
     add-k
     loop-less

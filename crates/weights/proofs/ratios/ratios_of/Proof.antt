@@ -11,11 +11,14 @@ components-requires c κs = search needs
 most-part-requires : tie.Need-most-part-requires
 most-part-requires c κs = search needs
 
+count-requires : tie.Need-count-requires
+count-requires c κs = search needs
+
 ones-requires : tie.Need-ones-requires
 ones-requires c κs = search needs
 
 returns : tie.Need-returns
-returns c = record { components = c .before .before .before .components .ensures; outcome = (unit-weights (c .before .before .before .before .before .pre .0) (rw (c .before .if1 .taken) at (c .before .before .most-part .ensures)) (c .ones .ensures), refl) }
+returns c = record { components = c .before .before .before .before .components .ensures; outcome = (unit-weights (c .before .before .before .before .before .before .before .before .pre .0) (rw (c .before .before .if1 .taken) at (c .before .before .before .most-part .ensures)) (rw (c .before .count .ensures) at (c .ones .ensures)), refl) }
 
 by-rows-requires : tie.Need-by-rows-requires
 by-rows-requires c κs = search needs
@@ -32,6 +35,7 @@ ratios-of-spec =
     (tie.spec
     components-requires
     most-part-requires
+    count-requires
     ones-requires
     returns
     by-rows-requires

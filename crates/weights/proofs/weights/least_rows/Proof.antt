@@ -1,4 +1,6 @@
 -- Each turn of the loop passes one port more. The measure is how many are left. Assumes nothing.
+use Rattle.table.specs.Table.{portCount}
+use Rattle.table.specs.Slices.{tableOf}
 use Rattle.weights.proofs.weights.Lessening.{least-none, least-row, least-taken, least-all}
 use Rattle.weights.specs.LeastRows.{LeastRows}
 use Prim.Native.Nat.{_-_}
@@ -8,10 +10,13 @@ use Rattle.weights.proofs.weights.least_rows.Statement.{statement}
 use Rattle.weights.proofs.weights.least_rows.Tie as tie
 
 abbrev Inv-loop : tie.InvT-loop
-Inv-loop t rows labels least₀ p₀ least p = LeastRows t labels rows p least
+Inv-loop ports links labels rows count least₀ p₀ least p = LeastRows (tableOf ports links) labels rows p least
 
 abbrev μ-loop : tie.MeasureT-loop
-μ-loop t rows labels least₀ p₀ least p = t .«port_count» - p
+μ-loop ports links labels rows count least₀ p₀ least p = portCount (tableOf ports links) - p
+
+count-requires : tie.Need-count-requires Inv-loop μ-loop
+count-requires c κs = search needs
 
 loop-holds : tie.Need-loop-holds Inv-loop μ-loop
 loop-holds c = search (least-none, needs)
@@ -19,11 +24,11 @@ loop-holds c = search (least-none, needs)
 mul-c : tie.Need-mul-c Inv-loop μ-loop
 mul-c c = search needs
 
-array-read-c : tie.Need-array-read-c Inv-loop μ-loop
-array-read-c c = search needs
+element-copy-out-c : tie.Need-element-copy-out-c Inv-loop μ-loop
+element-copy-out-c c = search needs
 
 take-lesser-requires : tie.Need-take-lesser-requires Inv-loop μ-loop
-take-lesser-requires c κs = (least-row (c .before .before .before .before .before .pre) (c .before .if1 .taken) (c .before .before .before .loop .inv), record { below = omega (arith, c .before .before .before .before .before .pre .well-formed .few-ports); long = c .before .before .before .before .before .pre .each _ (omega (arith, c .before .before .before .before .before .pre .well-formed .few-ports)) })
+take-lesser-requires c κs = (least-row (c .before .before .before .before .before .before .before .before .pre) (omega arith) (c .before .before .before .loop .inv), record { below = omega (arith, c .before .before .before .before .before .before .before .before .pre .well-formed .few-ports); long = c .before .before .before .before .before .before .before .before .pre .each _ (omega (arith, c .before .before .before .before .before .before .before .before .pre .well-formed .few-ports)) })
 
 add-p : tie.Need-add-p Inv-loop μ-loop
 add-p c = search needs
@@ -32,10 +37,10 @@ loop-less : tie.Need-loop-less Inv-loop μ-loop
 loop-less c = search needs
 
 loop-again : tie.Need-loop-again Inv-loop μ-loop
-loop-again c = least-taken (c .before .before .before .before .before .before .pre) (c .before .before .if1 .taken) (c .before .before .before .before .loop .inv) (c .take-lesser .ensures)
+loop-again c = least-taken (c .before .before .before .before .before .before .before .before .before .pre) (omega arith) (c .before .before .before .before .loop .inv) (c .take-lesser .ensures)
 
 returns : tie.Need-returns Inv-loop μ-loop
-returns c = search (least-all, needs)
+returns c = least-all (c .before .loop .inv) (omega arith)
 
 pub least-rows-spec : {M : Type 1} → statement M
 least-rows-spec =
@@ -43,9 +48,10 @@ least-rows-spec =
     (tie.spec
     Inv-loop
     μ-loop
+    count-requires
     loop-holds
     mul-c
-    array-read-c
+    element-copy-out-c
     take-lesser-requires
     add-p
     loop-less

@@ -1,19 +1,24 @@
 -- Each turn of the loop stores one weight more, or finds one above 10,000. The measure is how many ports are left. Assumes nothing.
 use Prim.Native.Nat.{_-_}
+use Rattle.table.specs.Slices.{tableOf}
 use native.Mathlib.Omega.{arith}
+use Rattle.table.specs.Table.{portCount}
 use Rattle.weights.proofs.weights.Weighted.{Weighted, labelled-rows, weighted-none, weighted-within, weighted-above, weighted-row, weighted-least, weighted-on, weighted-over, weighted-all}
 use borrow.Author.Needs.{needs}
 use Rattle.weights.proofs.weights.weigh.Statement.{statement}
 use Rattle.weights.proofs.weights.weigh.Tie as tie
 
 abbrev Inv-loop : tie.InvT-loop
-Inv-loop t rows most labels least all weights₀ p₀ weights p = Weighted t labels rows least p weights
+Inv-loop ports links labels rows most count least all weights₀ p₀ weights p = Weighted (tableOf ports links) labels rows least p weights
 
 abbrev μ-loop : tie.MeasureT-loop
-μ-loop t rows most labels least all weights₀ p₀ weights p = t .«port_count» - p
+μ-loop ports links labels rows most count least all weights₀ p₀ weights p = portCount (tableOf ports links) - p
+
+count-requires : tie.Need-count-requires Inv-loop μ-loop
+count-requires c κs = search needs
 
 least-rows-requires : tie.Need-least-rows-requires Inv-loop μ-loop
-least-rows-requires c κs = labelled-rows (c .pre .0)
+least-rows-requires c κs = labelled-rows (c .before .before .before .pre .0)
 
 all-requires : tie.Need-all-requires Inv-loop μ-loop
 all-requires c κs = search needs
@@ -24,8 +29,8 @@ loop-holds c = weighted-none
 mul-c : tie.Need-mul-c Inv-loop μ-loop
 mul-c c = search needs
 
-array-read-c : tie.Need-array-read-c Inv-loop μ-loop
-array-read-c c = search needs
+element-copy-out-c : tie.Need-element-copy-out-c Inv-loop μ-loop
+element-copy-out-c c = search needs
 
 slice-aggregate-quotient-within : tie.Need-slice-aggregate-quotient-within Inv-loop μ-loop
 slice-aggregate-quotient-within c = search needs
@@ -34,13 +39,13 @@ quotient-within-requires : tie.Need-quotient-within-requires Inv-loop μ-loop
 quotient-within-requires c κs = (
   c .before .before .before .before .before .all .ensures,
   (
-    (weighted-row (c .before .before .before .before .before .before .before .pre .0) (c .before .before .before .before .before .before .least-rows .ensures) (c .before .before .if1 .taken), weighted-least (c .before .before .before .before .before .before .before .pre .0) (c .before .before .before .before .before .before .least-rows .ensures) (c .before .before .if1 .taken)),
-    (weighted-within (c .before .before .before .before .before .before .before .pre .0) (c .before .before .before .before .before .before .least-rows .ensures) (c .before .before .if1 .taken), weighted-above (c .before .before .before .before .before .before .before .pre .0) (c .before .before .before .before .before .before .least-rows .ensures) (c .before .before .if1 .taken) (c .before .before .before .before .before .before .before .pre .1)),
+    (weighted-row (c .before .before .before .before .before .before .before .before .before .before .pre .0) (c .before .before .before .before .before .before .least-rows .ensures) (omega arith), weighted-least (c .before .before .before .before .before .before .before .before .before .before .pre .0) (c .before .before .before .before .before .before .least-rows .ensures) (omega arith)),
+    (weighted-within (c .before .before .before .before .before .before .before .before .before .before .pre .0) (c .before .before .before .before .before .before .least-rows .ensures) (omega arith), weighted-above (c .before .before .before .before .before .before .before .before .before .before .pre .0) (c .before .before .before .before .before .before .least-rows .ensures) (omega arith) (c .before .before .before .before .before .before .before .before .before .before .pre .1)),
   ),
 )
 
 returns : tie.Need-returns Inv-loop μ-loop
-returns c = weighted-over (c .before .before .before .before .before .before .before .before .before .pre .0) (c .before .before .before .before .before .before .before .before .least-rows .ensures) (c .before .before .before .before .if1 .taken) (c .before .quotient-within .ensures) _ (omega arith)
+returns c = weighted-over (c .before .before .before .before .before .before .before .before .before .before .before .before .pre .0) (c .before .before .before .before .before .before .before .before .least-rows .ensures) (omega arith) (c .before .quotient-within .ensures) _ (omega arith)
 
 mul-weights : tie.Need-mul-weights Inv-loop μ-loop
 mul-weights c = search needs
@@ -55,10 +60,10 @@ loop-less : tie.Need-loop-less Inv-loop μ-loop
 loop-less c = search needs
 
 loop-again : tie.Need-loop-again Inv-loop μ-loop
-loop-again c = weighted-on (c .before .before .before .before .before .before .before .before .before .pre .0) (c .before .before .before .before .before .before .before .before .least-rows .ensures) (c .before .before .before .before .if1 .taken) (c .before .quotient-within .ensures) (c .before .before .before .before .before .before .loop .inv) (omega arith)
+loop-again c = weighted-on (c .before .before .before .before .before .before .before .before .before .before .before .before .pre .0) (c .before .before .before .before .before .before .before .before .least-rows .ensures) (omega arith) (c .before .quotient-within .ensures) (c .before .before .before .before .before .before .loop .inv) (omega arith)
 
 returns-2 : tie.Need-returns-2 Inv-loop μ-loop
-returns-2 c = weighted-all (c .before .before .before .before .before .pre .0) (c .before .before .before .before .least-rows .ensures) (c .before .before .loop .inv) (c .if1 .left)
+returns-2 c = weighted-all (c .before .before .before .before .before .before .before .pre .0) (c .before .before .before .least-rows .ensures) (c .before .loop .inv) (omega arith)
 
 pub weigh-spec : {M : Type 1} → statement M
 weigh-spec =
@@ -66,11 +71,12 @@ weigh-spec =
     (tie.spec
     Inv-loop
     μ-loop
+    count-requires
     least-rows-requires
     all-requires
     loop-holds
     mul-c
-    array-read-c
+    element-copy-out-c
     slice-aggregate-quotient-within
     quotient-within-requires
     returns

@@ -1,0 +1,14 @@
+//! The proved analysis in a thread whose stack has exactly the bytes that the bindings state.
+
+use crate::proved;
+use std::thread::Builder;
+
+/// Answers all inputs, each a table and the length of its answer buffer. A stack that is too small ends the program.
+pub fn answer_all(inputs: Vec<(Vec<u8>, usize)>) {
+    let all = move || {
+        for (table, room) in &inputs {
+            proved::analyse(table, &mut vec![0; *room]);
+        }
+    };
+    Builder::new().stack_size(proved::STACK_BYTES).spawn(all).unwrap().join().unwrap();
+}

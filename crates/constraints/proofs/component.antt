@@ -1,3 +1,0 @@
--- What the proof of the search uses.
-mod Cut
-mod Translated

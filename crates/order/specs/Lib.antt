@@ -1,0 +1,3 @@
+-- Numbers in the order of their keys.
+pub mod Order
+pub mod OrderLaws
