@@ -1,9 +1,13 @@
-/* The timing check of Vundayre, for C. Link with libvundayre.a (rt staticlib vundayre). */
+/* The timing check of Vundayre, for C and C++. Link with libvundayre.a (rt staticlib vundayre). */
 #ifndef VUNDAYRE_H
 #define VUNDAYRE_H
 
 #include <stddef.h>
 #include <stdint.h>
+
+#ifdef __cplusplus
+extern "C" {
+#endif
 
 /* An answer buffer of this many bytes suffices for every table; a shorter one is refused with number 1. */
 #define VUNDAYRE_ANSWER_BYTES 5120
@@ -27,5 +31,9 @@ struct vundayre_outcome {
  * the two buffers may not overlap. It keeps nothing between calls and may be called from several threads.
  */
 struct vundayre_outcome vundayre_analyse(const uint8_t *table, size_t table_bytes, uint8_t *answer, size_t answer_bytes);
+
+#ifdef __cplusplus
+}
+#endif
 
 #endif

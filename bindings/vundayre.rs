@@ -1,4 +1,4 @@
-//! The timing check of Vundayre, for Rust. Link with libvundayre.a (`rt staticlib vundayre`).
+//! The timing check of Vundayre, for Rust of edition 2024 or 2021. Link with libvundayre.a (`rt staticlib vundayre`).
 
 /// An answer buffer of this many bytes suffices for every table; a shorter one is refused with number 1.
 pub const ANSWER_BYTES: usize = 5120;
@@ -14,7 +14,7 @@ struct Outcome {
     written: usize,
 }
 
-extern "C" {
+unsafe extern "C" {
     fn vundayre_analyse(table: *const u8, table_bytes: usize, answer: *mut u8, answer_bytes: usize) -> Outcome;
 }
 
@@ -22,7 +22,7 @@ extern "C" {
 ///
 /// Numbers 1 to 12 and 14 write nothing. Bytes of `answer` past the records keep what they held.
 pub fn analyse<'a>(table: &[u8], answer: &'a mut [u8]) -> (u64, &'a [u8]) {
-    // The pointers of slices are never null, and a shared and a mutable slice never overlap.
+    // SAFETY: the pointers of slices are never null, and a shared and a mutable slice never overlap.
     let outcome = unsafe { vundayre_analyse(table.as_ptr(), table.len(), answer.as_mut_ptr(), answer.len()) };
     (outcome.number, &answer[..outcome.written])
 }

@@ -1,31 +1,49 @@
 #!/usr/bin/env python3
-"""Writes crates/models/stdin and stdout: the models of document 01 and random ones, and what the exact solver of timing.py says of them."""
+"""Writes crates/models/stdin and stdout: tables that the program `models` is run on, and what it prints of them.
+
+The tables are those of the examples, models at the edges, random models, and one or more for each number without a model. What the program
+prints is checked, answer by answer, before it is written: number and lines by the exact solver of timing.py, or as said here beside the table;
+the loop, floor or block that is shown, which is free, by shown.py. Where an answer is wrong nothing is written, and the status is 1."""
+import argparse
+import glob
 import os
 import random
+import re
 import struct
+import subprocess
+import sys
 from collections import Counter
 
-from model import Link, Model, Port, table_bytes
+from model import Link, Model, Port, link_bytes, port_bytes, record, table_bytes
+from shown import Wrong, check_blocked, check_loop
+from table_text import read_text
 from timing import analyse, printed
 
 random.seed(20261115)
 
+BASE = os.path.dirname(os.path.dirname(os.path.abspath(__file__)))
+PORT = port_bytes(Port())
+
+# Tables without a model, each with what is printed of it.
+REFUSED = [
+    (b'\x06', 'answer 2\n'),
+    (PORT + record(4, b''), 'answer 3\n'),
+    (PORT + record(1, b''), 'answer 4\n'),
+    (PORT + link_bytes(Link(0, 0)) + PORT, 'answer 5\n'),
+    (PORT * 65, 'answer 6\n'),
+    (PORT * 8192, 'answer 6\n'),  # exactly 65,536 bytes
+    (PORT * 8192 + b'\x06', 'answer long\n'),
+    (PORT + link_bytes(Link(0, 0)) * 257, 'answer 7\n'),
+    (port_bytes(Port(0, 1)), 'answer 8\n'),
+    (PORT + link_bytes(Link(0, 1)), 'answer 9\n'),
+    (PORT + link_bytes(Link(0, 0, 1, 0)), 'answer 10\n'),
+    (PORT + link_bytes(Link(0, 0, ticks=10_000_001)), 'answer 11\n'),
+    (b'', 'answer 12\n'),
+]
+
 FAST = Port(1000, 1)
 EDGES = [
-    Model([Port()] * 2, [Link(0, 1, ticks=3), Link(1, 0, events=-2), Link(1, 0, ticks=4, events=None)]),         # A
-    Model([Port()] * 2, [Link(0, 1, ticks=3), Link(1, 0, ticks=-3)]),                                           # B
-    Model([Port()] * 2, [Link(0, 1, ticks=3), Link(1, 0, ticks=-2)]),                                           # C
-    Model([Port(1, 5)], [Link(0, 0, ticks=-5, events=1)]),                                                      # D
-    Model([Port(1, 6)], [Link(0, 0, ticks=-5, events=1)]),                                                      # E
-    Model([Port()], [Link(0, 0, ticks=7, events=-1), Link(0, 0, ticks=-5, events=1)]),                          # F
-    Model([Port()], [Link(0, 0, ticks=7, events=-1), Link(0, 0, ticks=-7, events=1)]),                          # G
-    Model([FAST] * 2, [Link(0, 1, 2, 1, ticks=1), Link(1, 0, 1, 2, ticks=1, events=-1)]),                       # H
     Model([FAST] * 2, [Link(0, 1, 2, 1, ticks=1, events=-1), Link(1, 0, 1, 2, ticks=1)]),                       # H, δ exchanged
-    Model([Port()] * 2, [Link(0, 1), Link(0, 1, 2, 1)]),                                                        # I
-    Model([Port()] * 3, [Link(0, 1, 1000, 1), Link(1, 2, 10, 1)]),                                              # J
-    Model([Port()] * 3, [Link(0, 1, 1000, 1), Link(1, 2, 11, 1)]),                                              # K
-    Model([Port(2, 5)] * 2, [Link(0, 1, ticks=3), Link(1, 0, events=None)]),                                    # L
-    Model([Port()] * 2, [Link(0, 1, 2, 4), Link(1, 0, 2, 1)]),                                                  # M
     Model([Port(1, 1), Port(1, 2)], []),                                                                        # two unjoined ports
     Model([Port()] * 4, [Link(0, 1, 1000, 1), Link(1, 2, 1000, 1), Link(3, 3, 2, 1)]),                          # 13 before 14
     Model([Port()] * 64, [Link(p, p + 1, 1000, 1) for p in range(63)]),
@@ -143,18 +161,64 @@ def large():
     return long_chain(ports)
 
 
+def examples():
+    """The models of the example texts, A to M of document 01 among them."""
+    for path in sorted(glob.glob(os.path.join(BASE, 'examples', '*.txt'))):
+        with open(path, 'rb') as text:
+            yield os.path.basename(path), read_text(text.read())
+
+
+def run(program, given):
+    """What the program prints, cut into answers."""
+    try:
+        output = subprocess.run([program], input=given, stdout=subprocess.PIPE, check=True).stdout.decode('ascii')
+    except (OSError, subprocess.CalledProcessError, UnicodeDecodeError) as error:
+        sys.exit(f'{program}: {error}')
+    before, *texts = re.split('(?m)^(?=answer )', output)
+    if before:
+        sys.exit(f'{program}: it prints {before[:80]!a} before any answer')
+    return texts
+
+
+def check(model, due, text):
+    """That what is printed is what is due; of 13 and 15 that is the number, and the lines after it are checked by themselves."""
+    if not text.startswith(due) or not text.endswith('\n'):
+        raise Wrong(f'due is {due!a}')
+    lines = text[len(due):].splitlines()
+    if due == 'answer 13\n' and len(lines) == 1:
+        check_loop(model, *lines)
+    elif due == 'answer 15\n' and len(lines) == 2:
+        check_blocked(model, *lines)
+    elif due in ('answer 13\n', 'answer 15\n') or lines:
+        raise Wrong(f'{len(lines)} lines follow what is due')
+
+
 def main():
-    folder = os.path.join(os.path.dirname(os.path.abspath(__file__)), '..', 'crates', 'models')
-    models = EDGES + [small() for _ in range(5000)] + [large() for _ in range(200)]
+    options = argparse.ArgumentParser(description='Writes the tables of the program `models`, and what it prints, once that is checked.')
+    options.add_argument('--program', default=os.path.join(BASE, 'target', 'bin', 'models'), help='the built program')
+    program = options.parse_args().program
+    cases = [(f'{len(table)} bytes', table, None, due) for table, due in REFUSED]
+    models = [*examples(), *((f'edge {n}', model) for n, model in enumerate(EDGES))]
+    models += [(f'small {n}', small()) for n in range(5000)]
+    models += [(f'large {n}', large()) for n in range(200)]
+    cases += [(name, table_bytes(model), model, None) for name, model in models]
+    given = b''.join(struct.pack('<I', len(table)) + table for _, table, _, _ in cases)
+    texts = run(program, given)
+    if len(texts) != len(cases):
+        sys.exit(f'{program}: {len(texts)} answers to {len(cases)} tables')
     numbers = Counter()
-    with open(os.path.join(folder, 'stdin'), 'wb') as tables, open(os.path.join(folder, 'stdout'), 'w') as answers:
-        for m in models:
-            table = table_bytes(m)
-            tables.write(struct.pack('<H', len(table)) + table)
-            answer = analyse(m)
-            numbers[answer[0]] += 1
-            answers.write(printed(*answer))
-    print(len(models), 'models:', ', '.join(f'{count} with answer {n}' for n, count in sorted(numbers.items())))
+    for at, (name, _, model, due) in enumerate(cases):
+        try:
+            check(model, due or printed(*analyse(model)), texts[at])
+        except Wrong as why:
+            sys.exit(f'table {at} ({name}): {why}; printed is {texts[at]!a}')
+        numbers[texts[at].split()[1]] += 1
+    folder = os.path.join(BASE, 'crates', 'models')
+    with open(os.path.join(folder, 'stdin'), 'wb') as tables, open(os.path.join(folder, 'stdout'), 'w', encoding='ascii') as answers:
+        tables.write(given)
+        answers.write(''.join(texts))
+    said = sorted(numbers, key=lambda number: (len(number), number))
+    print(len(cases), 'tables:', ', '.join(f'{numbers[number]} with answer {number}' for number in said))
 
 
 main()

@@ -1,15 +1,17 @@
 #!/usr/bin/env python3
 """Tables as text, one line for each port, connection or buffer, and back.
 
-    table_text.py encode < TEXT > TABLE
-    table_text.py decode < TABLE > TEXT
+    table_text.py encode [TEXT] > TABLE
+    table_text.py decode [TABLE] > TEXT
 
     port 1/1                                         maximum rate: events per tick
     connection 0 1 ratio 1/1 ticks 3 events 0        from, to, ratio, constant delay, rate-dependent delay
     buffer 1 0 ratio 1/1 ticks 4                     from, to, ratio, constant delay
 
-Ports are numbered from 0 in order; connections and buffers share one numbering from 0. Blank lines and what follows # are left out.
-A faulty line is named with its number and the reason, and nothing is written."""
+Without a file, standard input is read. Ports are numbered from 0 in order; connections and buffers share one numbering from 0.
+A text is UTF-8. A line ends at \\n or \\r\\n; spaces and tabs part its words; blank lines and what follows # are left out.
+On a fault one line on standard error names the line, or the byte where the faulty record begins, and the reason; nothing else is
+written, and the status is 2."""
 import re
 import struct
 import sys
@@ -18,21 +20,34 @@ from model import Link, Model, Port, table_bytes
 
 MOST_PORTS, MOST_LINKS, MOST_PART = 64, 256, 1_000
 MOST_TICKS, MOST_EVENTS = 10_000_000, 1_000
+# More than any number of a table needs, and few enough for Python to read.
+MOST_DIGITS = 10
 
-NUMBER = r'([+-]?\d+)'
-PORT = re.compile(rf'port {NUMBER}/{NUMBER}$')
+NUMBER = r'([+-]?[0-9]+)'
 LINK = rf'{NUMBER} {NUMBER} ratio {NUMBER}/{NUMBER} ticks {NUMBER}'
-CONNECTION = re.compile(rf'connection {LINK} events {NUMBER}$')
-BUFFER = re.compile(rf'buffer {LINK}$')
 SHAPES = {
-    'port': (PORT, 'port RATE, as: port 1/1'),
-    'connection': (CONNECTION, 'connection FROM TO ratio N/D ticks T events E, as: connection 0 1 ratio 1/1 ticks 3 events 0'),
-    'buffer': (BUFFER, 'buffer FROM TO ratio N/D ticks T, as: buffer 1 0 ratio 1/1 ticks 4'),
+    'port': (rf'port {NUMBER}/{NUMBER}', 'port RATE, as: port 1/1'),
+    'connection': (rf'connection {LINK} events {NUMBER}',
+                   'connection FROM TO ratio N/D ticks T events E, as: connection 0 1 ratio 1/1 ticks 3 events 0'),
+    'buffer': (rf'buffer {LINK}', 'buffer FROM TO ratio N/D ticks T, as: buffer 1 0 ratio 1/1 ticks 4'),
+}
+# For each kind and length of a record: its numbers, and its line.
+RECORDS = {
+    (1, 6): ('<HH', 'port {}/{}\n'),
+    (2, 18): ('<HHHHii', 'connection {} {} ratio {}/{} ticks {} events {}\n'),
+    (3, 14): ('<HHHHi', 'buffer {} {} ratio {}/{} ticks {}\n'),
 }
 
 
 class Fault(Exception):
-    """What is wrong with a text or a table."""
+    """Why there is no table or no text."""
+
+
+def number(word):
+    digits = len(word.lstrip('+-'))
+    if digits > MOST_DIGITS:
+        raise Fault(f'a number of {digits} digits; at most {MOST_DIGITS} are read')
+    return int(word)
 
 
 def within(what, value, least, most):
@@ -44,12 +59,12 @@ def add_line(model, line):
     """Adds what one line says. The reasons are those of the numbers 5 to 11 of document 01, in their order."""
     kind = line.split(' ')[0]
     if kind not in SHAPES:
-        raise Fault(f"'{kind}' is not port, connection or buffer")
+        raise Fault(f'{kind[:20]!a} is not port, connection or buffer')
     pattern, shape = SHAPES[kind]
-    match = pattern.match(line)
+    match = re.fullmatch(pattern, line)
     if not match:
         raise Fault(f'this is not {shape}')
-    values = [int(x) for x in match.groups()]
+    values = [number(word) for word in match.groups()]
     if kind == 'port':
         if model.links:
             raise Fault('a port follows a connection or buffer')
@@ -72,58 +87,72 @@ def add_line(model, line):
     model.links.append(Link(*values) if kind == 'connection' else Link(*values, events=None))
 
 
+def words_of(line):
+    """The words of a line's bytes, with one space between them."""
+    try:
+        said = line.decode().split('#')[0]
+    except UnicodeDecodeError as error:
+        raise Fault(f'byte {line[error.start]:#04x} is not UTF-8') from None
+    return re.sub('[ \t]+', ' ', said).strip(' ')
+
+
 def read_text(text):
-    """The model of a text; a fault carries the line's number."""
+    """The model of a text's bytes; a fault carries the line's number."""
     model = Model()
-    for number, line in enumerate(text.splitlines(), 1):
-        words = ' '.join(line.split('#')[0].split())
-        if words:
-            try:
+    lines = text.replace(b'\r\n', b'\n').split(b'\n')
+    for at, line in enumerate(lines, 1):
+        try:
+            words = words_of(line)
+            if words:
                 add_line(model, words)
-            except Fault as fault:
-                raise Fault(f'line {number}: {fault}') from None
+        except Fault as fault:
+            raise Fault(f'line {at}: {fault}') from None
     if not model.ports:
-        raise Fault('there is no port')
+        raise Fault(f'line {len(lines)}: the text ends without a port')
     return model
 
 
-def read_table(table):
-    """The model of a table's bytes; a fault carries the byte where its record begins."""
-    model, at = Model(), 0
+def table_lines(table):
+    """The line of each record of a table, whatever its numbers; a fault carries the byte where its record begins."""
+    at = 0
     while at < len(table):
         length, kind = struct.unpack_from('<HH', table, at) if at + 4 <= len(table) else (0, 0)
-        body = table[at + 4:at + 2 + length]
-        if (kind, length) not in ((1, 6), (2, 18), (3, 14)) or len(body) != length - 2:
+        if (kind, length) not in RECORDS or at + 2 + length > len(table):
             raise Fault(f'byte {at}: no port, connection or buffer begins here')
-        if kind == 1:
-            model.ports.append(Port(*struct.unpack('<HH', body)))
-        elif kind == 2:
-            model.links.append(Link(*struct.unpack('<HHHHii', body)))
-        else:
-            model.links.append(Link(*struct.unpack('<HHHHi', body), events=None))
+        numbers, line = RECORDS[kind, length]
+        yield line.format(*struct.unpack_from(numbers, table, at + 4))
         at += 2 + length
-    return model
 
 
-def write_text(model):
-    lines = [f'port {p.num}/{p.den}' for p in model.ports]
-    for k in model.links:
-        head = f'{k.start} {k.end} ratio {k.num}/{k.den} ticks {k.ticks}'
-        lines.append(f'buffer {head}' if k.events is None else f'connection {head} events {k.events}')
-    return '\n'.join(lines) + '\n'
+def read(source):
+    try:
+        with open(source, 'rb') as file:
+            return file.read()
+    except OSError as error:
+        raise Fault(f'not read: {error.strerror}') from None
+    except KeyboardInterrupt:
+        raise Fault('not read: interrupted') from None
+
+
+def write(data):
+    try:
+        with open(1, 'wb') as file:
+            file.write(data)
+    except OSError as error:
+        raise Fault(f'not written: {error.strerror}') from None
 
 
 def main(words):
     try:
-        if words == ['encode']:
-            sys.stdout.buffer.write(table_bytes(read_text(sys.stdin.read())))
-        elif words == ['decode']:
-            sys.stdout.write(write_text(read_table(sys.stdin.buffer.read())))
-        else:
-            sys.exit(__doc__)
+        if len(words) not in (1, 2) or words[0] not in ('encode', 'decode'):
+            raise Fault('usage: table_text.py encode [TEXT] > TABLE, or table_text.py decode [TABLE] > TEXT')
+        data = read(words[1] if len(words) == 2 else 0)
+        write(table_bytes(read_text(data)) if words[0] == 'encode' else ''.join(table_lines(data)).encode())
     except Fault as fault:
-        sys.exit(str(fault))
+        print(fault, file=sys.stderr)
+        return 2
+    return 0
 
 
 if __name__ == '__main__':
-    main(sys.argv[1:])
+    sys.exit(main(sys.argv[1:]))

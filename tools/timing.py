@@ -92,6 +92,25 @@ def least_by_bisection(floor, members, edges):
     return x if starts is not None else None
 
 
+def timed(model, w, component, root):
+    """The least a/b of the component with that root and its least starts there, times b; (None, None) where no a/b serves."""
+    members = [p for p in range(len(model.ports)) if component[p] == root]
+    edges = [(k.start, k.end, k.ticks, k.events * w[k.start])
+             for k in model.links if k.events is not None and component[k.start] == root]
+    floor = max(Fraction(model.ports[p].den, model.ports[p].num * w[p]) for p in members)
+    try:
+        x = least_by_cycles(floor, simple_cycles(members, edges))
+    except TooMany:
+        x = least_by_bisection(floor, members, edges)
+    return (None, None) if x is None else (x, longest(members, edges, x)[0])
+
+
+def lowest_without_period(model, w):
+    """The lowest component that no a/b serves, or None."""
+    component = components(model)
+    return next((root for root in sorted(set(component)) if timed(model, w, component, root)[0] is None), None)
+
+
 def analyse(model):
     """(number, ports, buffers): ports are (component, weight, period, start), buffers (number, size); both empty but at number 0."""
     number, w = weights(model)
@@ -100,18 +119,10 @@ def analyse(model):
     component = components(model)
     period, start = {}, {}
     for root in sorted(set(component)):
-        members = [p for p in range(len(model.ports)) if component[p] == root]
-        edges = [(k.start, k.end, k.ticks, k.events * w[k.start])
-                 for k in model.links if k.events is not None and component[k.start] == root]
-        floor = max(Fraction(model.ports[p].den, model.ports[p].num * w[p]) for p in members)
-        try:
-            x = least_by_cycles(floor, simple_cycles(members, edges))
-        except TooMany:
-            x = least_by_bisection(floor, members, edges)
+        x, starts = timed(model, w, component, root)
         if x is None:
             return 15, [], []
-        starts, _ = longest(members, edges, x)
-        for p in members:
+        for p in starts:
             period[p] = w[p] * x
             start[p] = Fraction(starts[p], x.denominator)
     sizes = []

@@ -1,12 +1,30 @@
-/* Prints what the check says of the table on standard input: the number, and the bytes of its records. */
+/* Prints what the check says of the table on standard input: the number, and the bytes of its records. It is C99 and C++ alike. */
 #include <stdio.h>
 
 #include "../../bindings/vundayre.h"
 
+#ifdef __cplusplus
+#define LANGUAGE "C++"
+#else
+#define LANGUAGE "C"
+#endif
+
+/* More bytes are not analysed; there is room for one more, so that a longer input shows. */
+#define MOST_BYTES 65536
+
 int main(void) {
-    static uint8_t table[65536], answer[VUNDAYRE_ANSWER_BYTES];
+    static uint8_t table[MOST_BYTES + 1], answer[VUNDAYRE_ANSWER_BYTES];
     size_t n = fread(table, 1, sizeof table, stdin);
-    struct vundayre_outcome r = vundayre_analyse(table, n, answer, sizeof answer);
-    printf("C: answer %llu, %zu bytes\n", (unsigned long long)r.number, r.written);
+    struct vundayre_outcome r;
+    if (ferror(stdin)) {
+        puts(LANGUAGE ": answer unread");
+        return 2;
+    }
+    if (n > MOST_BYTES) {
+        puts(LANGUAGE ": answer long");
+        return 0;
+    }
+    r = vundayre_analyse(table, n, answer, sizeof answer);
+    printf(LANGUAGE ": answer %llu, %zu bytes\n", (unsigned long long)r.number, r.written);
     return 0;
 }

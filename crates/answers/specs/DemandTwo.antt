@@ -8,8 +8,6 @@ use native.Mathlib.Omega.{arith}
 use Rattle.fraction.specs.Rational.{Rational, _≼_, _⊕_, whole, share, ratio, ≼-trans, ≈-≼, ≈-sym, ⊕-right-≼, as-share}
 use Rattle.rounds.specs.Graph.{gain, loss, Meets}
 use Rattle.table.specs.Limits.{WellFormed}
-use Rattle.table.specs.Reading.{readTable}
-use Rattle.table.specs.ReadingFacts.{well-formed}
 use Rattle.table.specs.Table.{Table, port}
 use Rattle.ways.specs.Model.{IsPort, IsLink, from, to, den}
 use Rattle.ways.specs.Ways.{Joined, Component}
@@ -19,28 +17,7 @@ use Rattle.ways.specs.WeightLaws.{disagreeing as not-agreeing}
 use Rattle.period.specs.Periods.{Serves}
 use Rattle.period.specs.Limits.{limit-below, rate-below, blocked as blocked-serves, period-least}
 use Rattle.answers.specs.Constraints.{IsBuffer, PortIn, ConnectionIn, graphIn}
-use Rattle.answers.specs.Answers.{
-  Timing,
-  periodOf,
-  startOf,
-  Floor,
-  rate,
-  cycle,
-  Answer,
-  refused,
-  disagreeing,
-  overweight,
-  blocked,
-  consistent,
-  number,
-  IsFloor,
-  NoPeriod,
-  Enough,
-  Consistent,
-  Right,
-  leastRoom,
-  AnswerOf,
-}
+use Rattle.answers.specs.Answers.{Timing, periodOf, startOf, Floor, rate, cycle, Answer, refused, disagreeing, overweight, blocked, consistent, number, IsFloor, NoPeriod, Enough, Consistent, Right}
 use Rattle.answers.specs.Solutions.{Ratios, Starts, IsSolution, Solution, EventsEnough, FewestEvents}
 use Rattle.answers.specs.Demands.{LeastSolution, Demand2}
 use Rattle.answers.specs.ConstraintLaws.{from-port, to-port, from-in, to-in, names-component}
@@ -228,7 +205,3 @@ demand-2 {x = consistent r} formed h = record {
   only = λ s e. refl;
   least = λ r′ e. let same : r ≡ r′ = cc in rw same at (timing-least formed h);
 }
-
-pub demand-2-of : {s : List ℕ} {room : ℕ} {x : Answer} → AnswerOf s room x → leastRoom ≤ room → readTable s .number ≡ 0
-    → Demand2 (readTable s .table) x
-demand-2-of {s} h room e = demand-2 (well-formed s refl e) (h .right room e)

@@ -2,6 +2,7 @@
 pub mod Constraints
 pub mod ConstraintLaws
 pub mod Answers
+pub mod AnswerCases
 pub mod Solutions
 pub mod SolutionLaws
 pub mod Chains

@@ -57,13 +57,14 @@ buffer-records t r zero = omega arith
 buffer-records t r (suc n) =
     simp length-append (omega (arith, buffer-records t r n, buffer-record (link t n .buffer) n (r .size n)))
 
+-- a step of a loop has two numbers
+pub loop-numbers : (loop : List Step) → length (loopNumbers loop) ≡ 2 * length loop
+loop-numbers [] = refl
+loop-numbers (s ∷ loop) = omega (arith, loop-numbers loop)
+
 loop-record : (loop : List Step) → length (loopAnswer (loopNumbers loop)) ≡ 4 + 4 * length loop
 unfolding loopAnswer encode bytes
-loop-record loop = omega (arith, words-length (loopNumbers loop), pairs loop)
-  where
-    pairs : (xs : List Step) → length (loopNumbers xs) ≡ 2 * length xs
-    pairs [] = refl
-    pairs (s ∷ xs) = omega (arith, pairs xs)
+loop-record loop = omega (arith, words-length (loopNumbers loop), loop-numbers loop)
 
 pub cycle-record : (path : List ℕ) → length (cycleAnswer path) ≡ 4 + 2 * length path
 unfolding cycleAnswer encode bytes

@@ -1,8 +1,6 @@
 // The least divisor above 1 of each number from 2 to 1,000, by a table.
 ghost use mathlib.Core.Path.{_≡_};
-ghost use Rattle.fraction.specs.Prime.{Least, DivisorAboveOne};
-ghost use Rattle.exponents.specs.Divisors.{FromTwo, leastDivisors};
-use crate::wide;
+ghost use Rattle.exponents.specs.Divisors.{leastDivisors};
 
 // The least divisor at its number; the entries of 0 and 1 are 0.
 const LEAST: [u16; 1001] = [
@@ -1014,13 +1012,4 @@ pub fn least_divisors() -> [u16; 1001]
     ensures { λ r. ⌜ r ≡ leastDivisors ⌝ }
 {
     LEAST
-}
-
-pub fn least_divisor(divisors: &[u16], n: u64) -> u64
-    requires { ⌜ now divisors ≡ leastDivisors ⌝ }
-    requires { ⌜ FromTwo n ⌝ }
-    ensures { λ r. ⌜ Least (DivisorAboveOne n) r ⌝ }
-{
-    let i = n as usize;
-    wide(divisors[i])
 }

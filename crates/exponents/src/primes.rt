@@ -1,8 +1,6 @@
 // The primes up to 1,000 and their places, by tables.
 ghost use mathlib.Core.Path.{_≡_};
-ghost use Prim.Native.Nat.{_≤_};
-ghost use Rattle.exponents.specs.Primes.{primes, places, placeOf};
-use crate::wide;
+ghost use Rattle.exponents.specs.Primes.{primes, places};
 
 // The 168 primes in order.
 const PRIMES: [u16; 168] = [
@@ -1193,14 +1191,4 @@ pub fn all_places() -> [u16; 1001]
     ensures { λ r. ⌜ r ≡ places ⌝ }
 {
     PLACE
-}
-
-// The place of a prime.
-pub fn place(list: &[u16], p: u64) -> usize
-    requires { ⌜ now list ≡ places ⌝ }
-    requires { ⌜ p ≤ 1000 ⌝ }
-    ensures { λ r. ⌜ r ≡ placeOf p ⌝ }
-{
-    let i = p as usize;
-    wide(list[i]) as usize
 }

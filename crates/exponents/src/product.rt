@@ -1,4 +1,4 @@
-// The number that a row stands for, multiplied out up to a bound.
+// The quotient of the numbers that two rows stand for, multiplied out up to a bound.
 ghost use mathlib.Core.Path.{_≡_};
 ghost use Prim.Native.Nat.{_*_, _^_, min};
 ghost use mathlib.Core.List.{[]};

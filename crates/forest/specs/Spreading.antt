@@ -13,7 +13,12 @@ use Rattle.ways.specs.Model.{IsPort, IsLink, from, to}
 use Rattle.ways.specs.Ways.{Component}
 use Rattle.forest.specs.Forest.{Ends}
 use Rattle.forest.specs.PortRows.{rowOf, Fits, Near, MostPart, RowsUpTo}
-use Rattle.forest.specs.declared.spanning.Forest.{Forest}
+
+-- the order in which the ports were reached, from 1 on (0: not yet), the link over which each was, and how many are
+pub record PartForest : Type 0 where
+  pub reach : List ℕ
+  pub via : List ℕ
+  pub count : ℕ
 
 -- count ports are reached, each with a number of its own up to count
 pub record Numbered (reach : List ℕ) (count : ℕ) : Type 0 where
@@ -22,8 +27,7 @@ pub record Numbered (reach : List ℕ) (count : ℕ) : Type 0 where
   pub within : (p : ℕ) → getD reach p 0 ≤ count
   pub order : (p q : ℕ) → 0 < getD reach p 0 → getD reach p 0 ≡ getD reach q 0 → p ≡ q
 
--- the ports' numbers, the links over which they were reached, and how many are
-abbrev pub forestOf : List ℕ → List ℕ → ℕ → Forest
+abbrev pub forestOf : List ℕ → List ℕ → ℕ → PartForest
 forestOf reach via count = record { reach = reach; via = via; count = count }
 
 -- no port is reached
@@ -32,7 +36,7 @@ pub record Unreached (reach via : List ℕ) : Type 0 where
   pub no-via : via ≡ replicate 64 0
 
 -- p is reached next, over link k
-abbrev pub entered : Forest → ℕ → ℕ → Forest
+abbrev pub entered : PartForest → ℕ → ℕ → PartForest
 entered f p k = record { reach = set (f .reach) p (f .count + 1); via = set (f .via) p k; count = f .count + 1 }
 
 -- at most 64 ports
@@ -40,7 +44,7 @@ pub record Rootable (n : ℕ) : Type 0 where
   pub few : n ≤ 64
 
 -- of the ports below n those that are their own labels are reached, and no others
-pub record Rooted (n : ℕ) (labels : List ℕ) (f : Forest) : Type 0 where
+pub record Rooted (n : ℕ) (labels : List ℕ) (f : PartForest) : Type 0 where
   pub numbered : Numbered (f .reach) (f .count)
   pub via-long : length (f .via) ≡ 64
   pub all : (p : ℕ) → p < n → getD labels p 0 ≡ p → 0 < getD (f .reach) p 0
@@ -48,7 +52,7 @@ pub record Rooted (n : ℕ) (labels : List ℕ) (f : Forest) : Type 0 where
   pub below : (p : ℕ) → 0 < getD (f .reach) p 0 → p < n
 
 module _ (t : Table) where
-  module _ (f : Forest) (rows : List (List ℕ)) where
+  module _ (f : PartForest) (rows : List (List ℕ)) where
     -- p was reached over the link via p, which the rows fit, from a port that was reached before it
     pub record Child (p : ℕ) : Type 0 where
       pub parent : ℕ
@@ -72,12 +76,12 @@ module _ (t : Table) where
       pub up-to : (m : ℕ) → MostPart t m → RowsUpTo rows m
 
   -- no link below n has just one end reached
-  pub record Closed (n : ℕ) (f : Forest) : Type 0 where
+  pub record Closed (n : ℕ) (f : PartForest) : Type 0 where
     pub along : (k : ℕ) → k < n → 0 < getD (f .reach) (from t k) 0 → 0 < getD (f .reach) (to t k) 0
     pub against : (k : ℕ) → k < n → 0 < getD (f .reach) (to t k) 0 → 0 < getD (f .reach) (from t k) 0
 
   -- the links below n make f′ and rows of the forest f; where none reached a port, none can
-  pub record Passed (n : ℕ) (f f′ : Forest) (rows : List (List ℕ)) : Type 0 where
+  pub record Passed (n : ℕ) (f f′ : PartForest) (rows : List (List ℕ)) : Type 0 where
     pub within : n ≤ linkCount t
     pub spreading : Spreading f′ rows
     pub grown : f .count ≤ f′ .count
@@ -105,23 +109,23 @@ module _ (rows : List (List ℕ)) (p q : ℕ) where
     pub above : (m i : ℕ) → (times ≢ by → times ≤ m) → (times ≢ by → by ≤ m) → i < 168 → m < primeAt i
         → getD row i 0 ≡ getD (rowOf rows p) i 0
 
-module _ (f : Forest) (rows : List (List ℕ)) (p q : ℕ) where
+module _ (f : PartForest) (rows : List (List ℕ)) (p q : ℕ) where
   pub record Followable (times by : ℕ) : Type 0 where
     pub few : f .count ≤ 64
     pub spreadable : Spreadable rows p q times by
 
   -- q is reached from p over link k
-  pub record Extended (k times by : ℕ) (f′ : Forest) (rows′ : List (List ℕ)) : Type 0 where
+  pub record Extended (k times by : ℕ) (f′ : PartForest) (rows′ : List (List ℕ)) : Type 0 where
     pub reached : 0 < getD (f .reach) p 0
     pub new : getD (f .reach) q 0 ≡ 0
     pub made : f′ ≡ entered f q k
     pub row-made : RowMade rows p q times by rows′
 
   -- p is not reached, or q is
-  pub record Unchanged (f′ : Forest) (rows′ : List (List ℕ)) : Type 0 where
+  pub record Unchanged (f′ : PartForest) (rows′ : List (List ℕ)) : Type 0 where
     pub same : f′ ≡ f
     pub rows-same : rows′ ≡ rows
     pub done : 0 < getD (f .reach) p 0 → 0 < getD (f .reach) q 0
 
-  pub record Followed (k times by : ℕ) (f′ : Forest) (rows′ : List (List ℕ)) : Type 0 where
+  pub record Followed (k times by : ℕ) (f′ : PartForest) (rows′ : List (List ℕ)) : Type 0 where
     pub case : Extended k times by f′ rows′ ⊎ Unchanged f′ rows′

@@ -4,17 +4,16 @@ ghost use Rattle.table.specs.Limits.{WellFormed, LinkFits};
 ghost use Rattle.table.specs.Slices.{tableOf};
 ghost use Prim.Native.Nat.{_<_};
 ghost use mathlib.Core.Path.{_≡_};
-ghost use mathlib.Core.Logic.{_⊎_};
 ghost use Rattle.forest.specs.PortRows.{PortRows, OverForest};
-ghost use Rattle.forest.specs.Agreement.{FitsRows, IsOver, Parallel, KnownToFit, FirstConflict};
+ghost use Rattle.forest.specs.Agreement.{FitsRows, laterEnd, treeLink, isParallel, KnownToFit, FirstConflict};
 use exponents::row;
 use table::Link;
 use table::links;
 
 // The link over which a port was reached, if one was.
-pub struct Over {
-    pub reached: bool,
-    pub link: usize,
+struct Over {
+    reached: bool,
+    link: usize,
 }
 
 // Whether the rows of a link's ends fit its ratio.
@@ -36,7 +35,7 @@ fn fits(l: Link, rows: &[[u16; 168]; 64], divisors: &[u16], places: &[u16]) -> b
 // The end of a link that was reached later.
 fn later(reach: &[usize; 64], p: usize, q: usize) -> usize
     requires { ⌜ (p < 64) × (q < 64) ⌝ }
-    ensures { λ r. ⌜ (r ≡ p) ⊎ (r ≡ q) ⌝ }
+    ensures { λ r. ⌜ r ≡ laterEnd (now (reach .entry)) p q ⌝ }
 {
     if reach[p] < reach[q] { q } else { p }
 }
@@ -44,7 +43,7 @@ fn later(reach: &[usize; 64], p: usize, q: usize) -> usize
 // The link over which port p was reached; `other` stands for none, where p is the lowest port of its component.
 fn tree_link(labels: &[usize; 64], via: &[usize; 64], p: usize, other: usize) -> Over
     requires { ⌜ p < 64 ⌝ }
-    ensures { λ r. ⌜ IsOver (now (labels .entry)) (now (via .entry)) p other r ⌝ }
+    ensures { λ r. ⌜ r ≡ treeLink (now (labels .entry)) (now (via .entry)) p other ⌝ }
 {
     if labels[p] == p {
         return Over {
@@ -62,7 +61,7 @@ fn tree_link(labels: &[usize; 64], via: &[usize; 64], p: usize, other: usize) ->
 fn parallel(l: Link, m: Link) -> bool
     requires { ⌜ LinkFits 64 l ⌝ }
     requires { ⌜ LinkFits 64 m ⌝ }
-    ensures { λ r. ⌜ Parallel l m r ⌝ }
+    ensures { λ r. ⌜ r ≡ isParallel l m ⌝ }
 {
     let num = l.num;
     let den = l.den;

@@ -3,13 +3,13 @@ ghost use mathlib.Core.Path.{_≡_};
 ghost use Prim.Native.Nat.{max};
 ghost use Rattle.table.specs.Limits.{WellFormed};
 ghost use Rattle.table.specs.Slices.{tableOf};
-ghost use Rattle.forest.specs.PortRows.{MostPart};
+ghost use Rattle.forest.specs.Parts.{greatestPart};
 use table::links;
 
-// No part of a ratio is greater, ratios of 1 aside; 0 where every ratio is 1.
+// The greatest part of a ratio, ratios of 1 aside; 0 where every ratio is 1.
 pub fn most_part(ports: &[u32], links: &[u32]) -> u64
     requires { ⌜ WellFormed (tableOf (now ports) (now links)) ⌝ }
-    ensures { λ r. ⌜ MostPart (tableOf (now (ports .entry)) (now (links .entry))) r ⌝ }
+    ensures { λ r. ⌜ r ≡ greatestPart (tableOf (now (ports .entry)) (now (links .entry))) ⌝ }
 {
     let count = links::count(links);
     let mut most: u64 = 0;

@@ -11,11 +11,10 @@ use exponents::row;
 use table::links;
 use table::ports;
 
-// The order in which the ports were reached, from 1 on (0: not yet), the link over which each was, and how many are reached.
+// The order in which the ports were reached, from 1 on, and the link over which each was.
 pub struct Forest {
     pub reach: [usize; 64],
     pub via: [usize; 64],
-    pub count: usize,
 }
 
 // From the lowest port of each component every other port is reached over one link; its row follows from that of the link's other end.
@@ -51,7 +50,7 @@ pub fn spanned(
             places,
         );
         if count == before {
-            return Forest { reach, via, count };
+            return Forest { reach, via };
         }
     }
 }

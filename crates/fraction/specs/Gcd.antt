@@ -87,8 +87,14 @@ pub record Coprime (a b : ℕ) : Type 0 where
 pub coprime-sym : {a b : ℕ} → Coprime a b → Coprime b a
 coprime-sym h = record { only = λ d p q. h .only d q p }
 
+pub coprime-one-right : (a : ℕ) → Coprime a 1
+coprime-one-right a = record { only = λ d p q. divides-one q }
+
+pub coprime-one : {a b : ℕ} → Coprime a b → gcd a b ≡ 1
+coprime-one {a} {b} h = h .only (gcd a b) (gcd-is a b .left) (gcd-is a b .right)
+
 pub coprime-gcd : {a b : ℕ} → Coprime a b → IsGcd a b 1
-coprime-gcd {a} {b} h = rw (h .only (gcd a b) (gcd-is a b .left) (gcd-is a b .right)) at (gcd-is a b)
+coprime-gcd {a} {b} h = rw (coprime-one h) at (gcd-is a b)
 
 pub gcd-coprime : {a b : ℕ} → IsGcd a b 1 → Coprime a b
 gcd-coprime h = record { only = λ d p q. divides-one (gcd-greatest h p q) }

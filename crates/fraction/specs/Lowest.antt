@@ -9,7 +9,7 @@ use lib.Dec.{ltb}
 use borrow.Author.Tests.{ltb-true, lt-ltb}
 use Rattle.fraction.specs.declared.Fraction.{Fraction}
 use Rattle.fraction.specs.Divides.{divisor-positive, quotient-is}
-use Rattle.fraction.specs.Gcd.{gcd, gcd-is, gcd-positive, Coprime, gcd-quotients, coprime-unique}
+use Rattle.fraction.specs.Gcd.{gcd, gcd-is, gcd-positive, Coprime, coprime-one-right, gcd-quotients, coprime-unique}
 use Rattle.fraction.specs.Rational.{Rational, _≈_, _≺_, _·_, share}
 
 -- num / den, with both parts divided by their greatest common divisor
@@ -61,6 +61,41 @@ lowest-only {num} {den} {f} p h = λ i. record { num = both .0 i; den = both .1 
           ap (λ (n : ℕ). n * lowestTerms num den .den) (h .equal),
           ap (λ (n : ℕ). n * f .den) (k .equal),
         )))
+
+-- equal fractions have the same lowest terms
+pub lowest-same : (a c : ℕ) {b d : ℕ} → 0 < b → 0 < d → a * d ≡ c * b → lowestTerms a b ≡ lowestTerms c d
+lowest-same a c {b} {d} p q e =
+    let h = lowest-is a b p in
+    lowest-only q (record {
+      equal =
+          eq-of-mul-eq-mul-left b p (lowestTerms a b .num * d) (c * lowestTerms a b .den)
+          (omega (
+            arith,
+            ap (λ (n : ℕ). n * d) (h .equal),
+            ap (λ (n : ℕ). n * lowestTerms a b .den) e,
+          ));
+      over = h .over;
+      lowest = h .lowest;
+    })
+
+-- lowest terms times a weight are, reduced, the lowest terms of the product
+pub lowest-times : (a b w : ℕ) → 0 < b → lowestTerms (lowestTerms a b .num * w) (lowestTerms a b .den) ≡ lowestTerms (a * w) b
+lowest-times a b w p =
+    let h = lowest-is a b p in
+    lowest-same (lowestTerms a b .num * w) (a * w) (h .over) p (omega (arith, ap (λ (n : ℕ). n * w) (h .equal)))
+
+-- 0 and 1
+abbrev pub zero : Fraction
+zero = record { num = 0; den = 1 }
+
+abbrev pub one : Fraction
+one = record { num = 1; den = 1 }
+
+pub lowest-zero : {den : ℕ} → 0 < den → lowestTerms 0 den ≡ zero
+lowest-zero p = sym (lowest-only p (record { equal = omega arith; over = omega arith; lowest = coprime-one-right 0 }))
+
+pub lowest-one : {n : ℕ} → 0 < n → lowestTerms n n ≡ one
+lowest-one p = sym (lowest-only p (record { equal = omega arith; over = omega arith; lowest = coprime-one-right 1 }))
 
 -- its parts are no larger, and above zero where num is
 pub lowest-small : (num den : ℕ) → (lowestTerms num den .num ≤ num) × (lowestTerms num den .den ≤ den)

@@ -2,6 +2,7 @@
 ghost use mathlib.Core.Path.{_≡_};
 ghost use Prim.Native.Nat.{_*_, _^_, _<_};
 ghost use mathlib.Core.Bool.{true};
+ghost use Rattle.fraction.specs.Gcd.{Coprime};
 ghost use Rattle.fraction.specs.Lowest.{lowestTerms, lessThan, Narrow};
 
 mod euclid;
@@ -17,11 +18,17 @@ impl Fraction {
 
     pub const ONE: Fraction = Fraction { num: 1, den: 1 };
 
-    // num / den in lowest terms. A division takes longer than all else here, so what is in lowest terms already is not divided.
+    // num / den in lowest terms. A division takes longer than all else here, so 0, 1 and whole numbers take none, and what is in lowest terms already is not divided.
     pub fn reduced(num: u64, den: u64) -> Fraction
         requires { ⌜ 0 < den ⌝ }
         ensures { λ r. ⌜ r ≡ lowestTerms num den ⌝ }
     {
+        if num == 0 {
+            return Fraction::ZERO;
+        }
+        if num == den {
+            return Fraction::ONE;
+        }
         if den == 1 {
             return Fraction { num, den };
         }
@@ -33,6 +40,14 @@ impl Fraction {
             num: num / g,
             den: den / g,
         }
+    }
+
+    // num / den, whose parts are in lowest terms already: for parts of a fraction that were stored.
+    pub fn from_lowest(num: u64, den: u64) -> Fraction
+        requires { ⌜ (0 < den) × Coprime num den ⌝ }
+        ensures { λ r. ⌜ r ≡ lowestTerms num den ⌝ }
+    {
+        Fraction { num, den }
     }
 
     // self < other, exact for all parts. Products of parts below 2^32 fit a word.

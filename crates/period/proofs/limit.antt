@@ -1,4 +1,3 @@
 -- What the proof of `greatest_limit` uses. Assumes nothing.
-mod Reduced
 mod Below
 mod Leading

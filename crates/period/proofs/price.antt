@@ -1,3 +1,2 @@
--- What the proofs of `delay` and `price` use. Assumes nothing.
-mod Bounds
+-- What the proof of `price` uses. Assumes nothing.
 mod Filled

@@ -3,6 +3,7 @@ pub mod Taken
 pub mod Periods
 pub mod Limits
 pub mod Component
+pub mod Delay
 pub mod Prices
 pub mod Alike
 pub mod PricesLaws

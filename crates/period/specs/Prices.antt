@@ -3,9 +3,7 @@ use Prim.Native.Nat.{ℕ, zero, suc, _+_, _*_, _/_, _≤_}
 use mathlib.Core.Path.{_≡_}
 use mathlib.Core.List.{List, [], _∷_, _++_}
 use lib.ListN.{length, getD, take}
-use Rattle.table.specs.declared.Ticks.{Ticks}
-use Rattle.table.specs.declared.Events.{Events}
-use Rattle.period.specs.Component.{graphOf, SmallEdges, mostPart, mostRate}
+use Rattle.period.specs.Component.{graphOf, SmallEdges, mostRate}
 
 -- from, to, gain and loss of the first k edges at a/b
 unfoldable pub pricesTo : (edges : List ℕ) (a b k : ℕ) → List ℕ
@@ -34,12 +32,3 @@ pub record PricesMade (edges : List ℕ) (a b : ℕ) (costs costs′ : List ℕ)
   pub size : r ≡ 4 * (length edges / 6)
   pub made : take r costs′ ≡ pricesOf edges a b
   pub same-length : length costs′ ≡ length costs
-
--- what a connection with these parts adds at a/b, over b
-pub record SmallDelay (ticks : Ticks) (events : Events) (a b : ℕ) : Type 0 where
-  pub ticks-forward : ticks .0 ≤ mostPart
-  pub ticks-back : ticks .1 ≤ mostPart
-  pub events-forward : events .0 ≤ mostPart
-  pub events-back : events .1 ≤ mostPart
-  pub small-a : a ≤ mostRate
-  pub small-b : b ≤ mostRate

@@ -62,6 +62,7 @@ module _ (ports limits edges : List ℕ) where
   pub record FoundPeriod (r : Search) (starts′ : List ℕ) : Type 0 where
     pub period : Period (graphOf ports limits edges) (r .period .num) (r .period .den)
     pub shown : Shown (graphOf ports limits edges) (r .floor) (r .limit) (r .period .num) (r .period .den)
+    pub limit-within : WithinSteps (r .limit)
     pub least : LeastStarts (graphOf ports limits edges) (r .period .num) (r .period .den) (λ p. getD starts′ p 0)
     pub rounds : RoundsRun (pricesOf edges (r .period .num) (r .period .den)) starts′ (length ports) (r .rounds)
     pub small : SmallPeriod (r .period .num) (r .period .den)
@@ -72,6 +73,7 @@ module _ (ports limits edges : List ℕ) where
     pub above-zero : 0 < r .period .num
     pub over : 0 < r .period .den
     pub lowest : Coprime (r .period .num) (r .period .den)
+    pub small : SmallPeriod (r .period .num) (r .period .den)
     pub shown : Shown (graphOf ports limits edges) (r .floor) (r .limit) (r .period .num) (r .period .den)
     pub low : (a b : ℕ) → Serves (graphOf ports limits edges) a b → 0 < b → r .period .num * b ≤ a * r .period .den
     pub block : Blocks (graphOf ports limits edges) (cycleOf (r .block)) (r .period .num) (r .period .den)

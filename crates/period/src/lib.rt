@@ -1,5 +1,6 @@
 // The least period of a component, or why there is none.
 mod cycle;
+pub mod delay;
 pub mod limit;
 mod price;
 pub mod search;

@@ -1,6 +1,7 @@
 // The greatest of the ports' rate limits.
+ghost use mathlib.Core.Path.{_≡_};
 ghost use Rattle.period.specs.Greatest.{Limited, GreatestLimit};
-ghost use Rattle.period.specs.LimitOf.{HasLimit, LimitOf};
+ghost use Rattle.period.specs.LimitOf.{HasLimit, limitOf};
 use fraction::Fraction;
 
 // A port, and its rate limit in lowest terms.
@@ -9,6 +10,7 @@ pub struct Limit {
     pub period: Fraction,
 }
 
+// The first port with the greatest limit.
 pub fn greatest_limit(ports: &[u64], limits: &[u64]) -> Limit
     requires { ⌜ Limited (now ports) (now limits) ⌝ }
     ensures { λ r. ⌜ GreatestLimit (now (ports .entry)) (now (limits .entry)) r ⌝ }
@@ -26,18 +28,15 @@ pub fn greatest_limit(ports: &[u64], limits: &[u64]) -> Limit
     }
     Limit {
         port,
-        period: Fraction::reduced(greatest.num, greatest.den),
+        period: greatest,
     }
 }
 
-// The rate limit of a port, as it stands in limits.
+// The rate limit of a port.
 fn limit_of(limits: &[u64], port: u64) -> Fraction
     requires { ⌜ HasLimit (now limits) port ⌝ }
-    ensures { λ r. ⌜ LimitOf (now (limits .entry)) port r ⌝ }
+    ensures { λ r. ⌜ r ≡ limitOf (now (limits .entry)) port ⌝ }
 {
     let at = 2 * port as usize;
-    Fraction {
-        num: limits[at],
-        den: limits[at + 1],
-    }
+    Fraction::reduced(limits[at], limits[at + 1])
 }

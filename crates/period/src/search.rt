@@ -43,7 +43,7 @@ pub struct Search {
 }
 
 // What one a/b ends with: the rounds that changed something, or a part of the steps that is a cycle positive there.
-pub enum Tried {
+enum Tried {
     Settled(usize),
     Gaining(Part),
 }

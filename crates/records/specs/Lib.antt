@@ -3,3 +3,4 @@ pub mod Bytes
 pub mod Lengths
 pub mod Answer
 pub mod WrittenLaws
+pub mod NumberLaws

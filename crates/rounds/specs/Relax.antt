@@ -21,15 +21,16 @@ pub record Low (cs s : List ℕ) : Type 0 where
   pub ports : length s ≡ 64
   pub starts : (j : ℕ) → getD s j 0 ≤ 64 * mostCost
 
--- j is a port whose start is greater in t than in s, or 64 where t is s
+-- j is the lowest port whose start is greater in t than in s, or 64 where t is s
 pub record Raised (s t : List ℕ) (j : ℕ) : Type 0 where
   pub same : j ≡ 64 → t ≡ s
   pub grew : j ≢ 64 → getD s j 0 < getD t j 0
+  pub lower : (i : ℕ) → i < j → getD t i 0 ≡ getD s i 0
 
--- j is a port whose start is greater in t than in s, or 64 where none is
+-- j is the lowest port whose start is greater in t than in s, or 64 where none is
 pub record Grown (s t : List ℕ) (j : ℕ) : Type 0 where
   pub grew : j ≢ 64 → getD s j 0 < getD t j 0
-  pub none : j ≡ 64 → (i : ℕ) → i < 64 → getD t i 0 ≤ getD s i 0
+  pub lower : (i : ℕ) → i < j → getD t i 0 ≤ getD s i 0
 
 -- a round makes t of the starts s, and answers j
 pub record Round (cs s t : List ℕ) (j : ℕ) : Type 0 where

@@ -56,11 +56,12 @@ pub record Stopped (cs rows : List ℕ) (n r : ℕ) : Type 0 where
   pub moved : (q : ℕ) → q < r → starts cs (suc q) ≢ starts cs q
   pub still : starts cs (suc r) ≡ starts cs r
 
--- each of n rounds changed something, and the last of them raised port j
+-- each of n rounds changed something, and j is the lowest port that the last of them raised
 pub record Moving (cs rows : List ℕ) (n j : ℕ) : Type 0 where
   pub kept : Kept cs rows n
   pub moved : (q : ℕ) → q < n → starts cs (suc q) ≢ starts cs q
   pub grew : startOf cs (n - 1) j < startOf cs n j
+  pub lower : (i : ℕ) → i < j → startOf cs n i ≡ startOf cs (n - 1) i
 
 abbrev pub Ran : List ℕ → List ℕ → ℕ → Outcome → Type 0
 Ran cs rows n (Settled r) = Stopped cs rows n r

@@ -13,7 +13,7 @@ const WIDTH: usize = 64;
 pub enum Outcome {
     // So many rounds changed something, and the next changed nothing.
     Settled(usize),
-    // Each round that was allowed changed something; the last raised this port.
+    // Each round that was allowed changed something; this is the lowest port that the last raised.
     Unsettled(usize),
 }
 
@@ -61,7 +61,7 @@ fn grown(old: &[u64], new: &[u64]) -> usize
     p
 }
 
-// One round over every edge, each from the starts old. Answers a port that it raised, or WIDTH.
+// One round over every edge, each from the starts old. Answers the lowest port that it raised, or WIDTH.
 fn round(old: &[u64], new: &mut [u64], costs: &[u64]) -> usize
     requires { ⌜ Low (now costs) (now old) ⌝ }
     requires { ⌜ length (now new) ≡ 64 ⌝ }

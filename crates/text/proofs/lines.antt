@@ -1,2 +1,3 @@
 -- What the proofs of the lines use.
 mod Items
+mod Period

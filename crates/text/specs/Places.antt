@@ -7,12 +7,13 @@ use lib.Dec.{eqb, ltb, leb}
 use lib.ListN.{length}
 use borrow.Author.Tests.{eqb-true, ltb-true, leb-true}
 use Rattle.records.specs.Bytes.{numberAt}
-use Rattle.text.specs.Printed.{hasLine, isRecord}
+use Rattle.text.specs.Printed.{hasLine, hasPeriod, isRecord}
 
 pub record Lies (s : List ℕ) (at : ℕ) : Type 0 where
   pub starts : at + 3 < length s
   pub ends : at + 2 + numberAt s at 2 ≤ length s
   pub form : hasLine (numberAt s (at + 2) 2) (numberAt s at 2) ≡ true
+  pub period : hasPeriod s at ≡ true
 
 -- both tests passed
 tests : (b : Bool) {t : Bool} → cond b t false ≡ true → (b ≡ true) × (t ≡ true)
@@ -24,7 +25,12 @@ unfolding isRecord
 is-record {s} {at} e =
     let outer = tests (ltb (at + 3) (length s)) e in
     let inner = tests (leb (at + 2 + numberAt s at 2) (length s)) (outer .1) in
-    record { starts = ltb-true _ _ (outer .0); ends = leb-true _ _ (inner .0); form = inner .1 }
+    let last = tests (hasLine (numberAt s (at + 2) 2) (numberAt s at 2)) (inner .1) in
+    record { starts = ltb-true _ _ (outer .0); ends = leb-true _ _ (inner .0); form = last .0; period = last .1 }
+
+pub line-port : (kind size : ℕ) → hasLine kind size ≡ true → kind ≡ 16 → size ≡ 22
+unfolding hasLine
+line-port kind size h e = eqb-true size 22 (rw e at h)
 
 -- the length of each kind
 module _ {s : List ℕ} {at : ℕ} (h : Lies s at) where
@@ -35,8 +41,11 @@ module _ {s : List ℕ} {at : ℕ} (h : Lies s at) where
   size = numberAt s at 2
 
   pub size-port : kind ≡ 16 → size ≡ 22
-  unfolding hasLine
-  size-port e = eqb-true size 22 (rw e at (h .form))
+  size-port e = line-port kind size (h .form) e
+
+  pub over-port : kind ≡ 16 → 0 < numberAt s (at + 12) 4
+  unfolding hasPeriod
+  over-port e = ltb-true 0 _ (rw e at (h .period))
 
   pub size-buffer : kind ≡ 17 → size ≡ 12
   unfolding hasLine

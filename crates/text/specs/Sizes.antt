@@ -8,13 +8,15 @@ use lib.Dec.{eqb, ltb}
 use lib.ListN.{length, length-append}
 use borrow.Author.Tests.{eqb-true}
 use Rattle.io.specs.Digits.{glyph}
+use Rattle.fraction.specs.declared.Fraction.{Fraction}
 use Rattle.records.specs.Bytes.{numberAt}
 use Rattle.text.specs.Places.{Lies, is-record, size-port, size-buffer, size-loop, size-cycle, size-floor}
-use Rattle.text.specs.Printed.{
+use Rattle.text.specs.Lines.{
   decimal,
   decimalIn,
   fraction,
   lineEnd,
+  space,
   answerWord,
   portWord,
   componentWord,
@@ -27,23 +29,32 @@ use Rattle.text.specs.Printed.{
   blockWord,
   floorPortWord,
   signWord,
-  cycleWord,
-  portLine,
-  bufferLine,
-  space,
   field,
   fractionField,
+  answerLine,
   portText,
-  itemsText,
-  numberText,
+  portLine,
+  bufferLine,
   stepText,
-  loopLine,
-  cycleLine,
-  floorLine,
+  connectionText,
+  itemsLine,
+  floorPortLine,
+}
+use Rattle.text.specs.Printed.{
+  cycleWord,
+  itemsText,
+  portAt,
+  bufferAt,
+  stepAt,
+  connectionAt,
+  loopAt,
+  cycleAt,
+  floorAt,
   isRecord,
   recordLine,
   recordLines,
   printed,
+  printedRoom,
 }
 
 pub record AtMost (xs : List ℕ) (most : ℕ) : Type 0 where
@@ -76,23 +87,50 @@ pub decimal-size : (n : ℕ) → AtMost (decimal n) 20
 unfolding decimal
 decimal-size n = decimal-in 19 n
 
-fraction-size : (num den : ℕ) → AtMost (fraction num den) 41
+fraction-size : (f : Fraction) → AtMost (fraction f) 41
 unfolding fraction
-fraction-size num den = decimal-size _ ⊕ word (47 ∷ []) ⊕ decimal-size _
+fraction-size f = decimal-size _ ⊕ word (47 ∷ []) ⊕ decimal-size _
 
 -- ---- lines
 field-size : (xs : List ℕ) (n : ℕ) → AtMost (field xs n) (length xs + 20)
 unfolding field
 field-size xs n = word xs ⊕ decimal-size n
 
-fraction-field-size : (xs : List ℕ) (num den : ℕ) → AtMost (fractionField xs num den) (length xs + 41)
+fraction-field-size : (xs : List ℕ) (f : Fraction) → AtMost (fractionField xs f) (length xs + 41)
 unfolding fractionField
-fraction-field-size xs num den = word xs ⊕ fraction-size num den
+fraction-field-size xs f = word xs ⊕ fraction-size f
 
-sign-size : (direction : ℕ) → AtMost (signWord direction) 2
+sign-size : (against : Bool) → AtMost (signWord against) 2
 unfolding signWord
-sign-size direction = either (eqb direction 0) (λ e. word _) (λ e. word _)
+sign-size against = either against (λ e. word _) (λ e. word _)
 
+answer-size : (number : ℕ) → AtMost (answerLine number) 28
+unfolding answerLine
+answer-size number = field-size answerWord _ ⊕ word lineEnd
+
+port-size : (number component weight a b start : ℕ) → AtMost (portLine number component weight a b start) 182
+unfolding portLine portText
+port-size number component weight a b start =
+    field-size portWord _
+    ⊕ field-size componentWord _
+    ⊕ field-size weightWord _
+    ⊕ fraction-field-size periodWord _
+    ⊕ fraction-field-size startWord _
+    ⊕ word lineEnd
+
+buffer-size : (number size : ℕ) → AtMost (bufferLine number size) 54
+unfolding bufferLine
+buffer-size number size = field-size bufferWord _ ⊕ field-size sizeWord _ ⊕ word lineEnd
+
+floor-size : (port : ℕ) → AtMost (floorPortLine port) 32
+unfolding floorPortLine
+floor-size port = field-size floorPortWord _ ⊕ word lineEnd
+
+line-size : {xs items : List ℕ} {m n : ℕ} → AtMost xs m → AtMost items n → AtMost (itemsLine xs items) (m + n + 1)
+unfolding itemsLine
+line-size h k = h ⊕ k ⊕ word lineEnd
+
+-- ---- the line of the record at a place
 head-size : (number : ℕ) → AtMost (cycleWord number) 11
 unfolding cycleWord
 head-size number = either (eqb number 0) (λ e. word _) (λ e. less (word blockWord) (omega arith))
@@ -105,51 +143,32 @@ items-size h size at zero = less (word []) (omega arith)
 items-size h size at (suc n) = less (h at ⊕ items-size h size (at + size) n) (omega arith)
 
 module _ (s : List ℕ) where
-  pub number-size : (at : ℕ) → AtMost (numberText s at) 21
-  unfolding numberText
-  number-size at = field-size space _
+  pub connection-size : (at : ℕ) → AtMost (connectionAt s at) 21
+  unfolding connectionAt connectionText
+  connection-size at = field-size space _
 
-  pub step-size : (at : ℕ) → AtMost (stepText s at) 22
-  unfolding stepText
+  pub step-size : (at : ℕ) → AtMost (stepAt s at) 22
+  unfolding stepAt stepText
   step-size at = sign-size _ ⊕ decimal-size _
 
-  port-size : (at number : ℕ) → AtMost (portLine s at number) 182
-  unfolding portLine portText
-  port-size at number =
-      field-size portWord _
-      ⊕ field-size componentWord _
-      ⊕ field-size weightWord _
-      ⊕ fraction-field-size periodWord _ _
-      ⊕ fraction-field-size startWord _ _
-      ⊕ word lineEnd
+  loop-size : (at n : ℕ) → AtMost (loopAt s at n) (n * 22 + 5)
+  unfolding loopAt
+  loop-size at n = less (line-size (word loopWord) (items-size step-size 4 (at + 4) n)) (omega arith)
 
-  buffer-size : (at : ℕ) → AtMost (bufferLine s at) 54
-  unfolding bufferLine
-  buffer-size at = field-size bufferWord _ ⊕ field-size sizeWord _ ⊕ word lineEnd
-
-  loop-size : (at n : ℕ) → AtMost (loopLine s at n) (n * 22 + 5)
-  unfolding loopLine
-  loop-size at n = less (word loopWord ⊕ items-size step-size 4 (at + 4) n ⊕ word lineEnd) (omega arith)
-
-  cycle-size : (at number n : ℕ) → AtMost (cycleLine s at number n) (n * 21 + 12)
-  unfolding cycleLine
-  cycle-size at number n =
-      less (head-size number ⊕ items-size number-size 2 (at + 4) n ⊕ word lineEnd) (omega arith)
-
-  floor-size : (at : ℕ) → AtMost (floorLine s at) 32
-  unfolding floorLine
-  floor-size at = field-size floorPortWord _ ⊕ word lineEnd
+  cycle-size : (at number n : ℕ) → AtMost (cycleAt s at number n) (n * 21 + 12)
+  unfolding cycleAt
+  cycle-size at number n = less (line-size (head-size number) (items-size connection-size 2 (at + 4) n)) (omega arith)
 
   -- at most twelve bytes for each byte of the record
   pub record-size : (at number : ℕ) → Lies s at → AtMost (recordLine s at number) (12 * (2 + numberAt s at 2))
-  unfolding recordLine
+  unfolding recordLine portAt bufferAt floorAt
   record-size at number h =
       let kind = numberAt s (at + 2) 2 in
-      either (eqb kind 16) (λ e. less (port-size at number) (omega (arith, size-port h (eqb-true kind 16 e))))
-      (λ p. either (eqb kind 17) (λ e. less (buffer-size at) (omega (arith, size-buffer h (eqb-true kind 17 e))))
+      either (eqb kind 16) (λ e. less (port-size number _ _ _ _ _) (omega (arith, size-port h (eqb-true kind 16 e))))
+      (λ p. either (eqb kind 17) (λ e. less (buffer-size _ _) (omega (arith, size-buffer h (eqb-true kind 17 e))))
       (λ q. either (eqb kind 18) (λ e. less (loop-size at _) (omega (arith, size-loop h (eqb-true kind 18 e))))
       (λ r. either (eqb kind 19) (λ e. less (cycle-size at number _) (omega (arith, size-cycle h (eqb-true kind 19 e))))
-      (λ t. less (floor-size at) (omega (arith, size-floor h p q r t))))))
+      (λ t. less (floor-size _) (omega (arith, size-floor h p q r t))))))
 
   records-size : (n at number : ℕ) → at ≤ length s → AtMost (recordLines s n at number) (12 * (length s - at))
   unfolding recordLines
@@ -161,8 +180,7 @@ module _ (s : List ℕ) where
       less (record-size at number h ⊕ records-size n (at + 2 + numberAt s at 2) (number + 1) (h .ends)) (omega (arith, h .ends)))
       (λ e. less (word []) (omega arith))
 
--- the text of the longest answer fits
-pub printed-size : (number : ℕ) (s : List ℕ) → AtMost (printed number s) (12 * length s + 28)
+-- the room suffices
+pub printed-size : (number : ℕ) (s : List ℕ) → AtMost (printed number s) (printedRoom s)
 unfolding printed
-printed-size number s =
-    less (field-size answerWord number ⊕ word lineEnd ⊕ records-size s (length s) 0 0 (omega arith)) (omega arith)
+printed-size number s = less (answer-size number ⊕ records-size s (length s) 0 0 (omega arith)) (omega arith)

@@ -4,7 +4,7 @@ ghost use Prim.Native.Nat.{_+_, _*_, _≤_};
 ghost use lib.ListN.{length};
 ghost use Rattle.records.specs.Bytes.{numberAt};
 ghost use Rattle.records.specs.Answer.{Written};
-ghost use Rattle.text.specs.Printed.{hasLine, isRecord, recordLine, recordLines, printed};
+ghost use Rattle.text.specs.Printed.{hasLine, isRecord, recordLine, recordLines, printed, printedRoom};
 ghost use Rattle.text.specs.Places.{Lies};
 ghost use Rattle.text.specs.Put.{Put};
 use crate::lines::put_buffer;
@@ -40,7 +40,14 @@ fn is_record(s: &[u8], at: usize) -> bool
     if at + 2 + size as usize > s.len() {
         return false;
     }
-    has_line(number_at(s, at + 2, 2), size)
+    let kind = number_at(s, at + 2, 2);
+    if !has_line(kind, size) {
+        return false;
+    }
+    if kind == 16 {
+        return 0 < number_at(s, at + 12, 4);
+    }
+    true
 }
 
 fn put_record(s: &[u8], at: usize, number: u64, text: &mut [u8], to: usize) -> usize
@@ -82,12 +89,20 @@ fn put_records(s: &[u8], text: &mut [u8], to: usize) -> usize
 
 // The printed form of an answer: its number and its records' lines. Answers how many bytes of the text it wrote.
 pub fn print(number: u64, records: &[u8], text: &mut [u8]) -> usize
-    requires { ⌜ length (now records) ≤ 5120 ⌝ }
-    requires { ⌜ 65536 ≤ length (now text) ⌝ }
+    requires { ⌜ printedRoom (now records) ≤ length (now text) ⌝ }
     ensures { λ r. ⌜ Written (printed number (now (records .entry))) (now (text .entry)) (now (text .exit)) r ⌝ }
     ensures { λ r. ⌜ r ≤ length (now (text .exit)) ⌝ }
 {
     let mut end = put_field(text, 0, b"answer ", number);
     end = put(text, end, b"\n");
     put_records(records, text, end)
+}
+
+// A line as it stands, at the front of the text.
+pub fn print_line(line: &[u8], text: &mut [u8]) -> usize
+    requires { ⌜ length (now line) ≤ length (now text) ⌝ }
+    ensures { λ r. ⌜ Written (now (line .entry)) (now (text .entry)) (now (text .exit)) r ⌝ }
+    ensures { λ r. ⌜ r ≤ length (now (text .exit)) ⌝ }
+{
+    put(text, 0, line)
 }

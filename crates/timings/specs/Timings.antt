@@ -6,6 +6,7 @@ use mathlib.Core.List.{List}
 use native.Mathlib.Omega.{arith}
 use lib.Dec.{leb}
 use lib.ListN.{length, getD}
+use Rattle.fraction.specs.Gcd.{Coprime}
 use Rattle.table.specs.Limits.{WellFormed, mostTicks}
 use Rattle.table.specs.declared.Link.{Link}
 use Rattle.table.specs.Table.{Table, link}
@@ -38,7 +39,7 @@ sizeAt l weights timing = fewestEvents
     (startAt timing (l .to) + l .ticks .1 * bAt timing (l .from))
     (getD weights (l .from) 0 * aAt timing (l .from))
 
--- the numbers of a port are small, and its period is above zero
+-- the numbers of a port are small, its period is above zero and in lowest terms
 pub record PortNumbers (weights timing : List ℕ) (p : ℕ) : Type 0 where
   pub low : p < 64
   pub weight-some : 0 < getD weights p 0
@@ -47,6 +48,7 @@ pub record PortNumbers (weights timing : List ℕ) (p : ℕ) : Type 0 where
   pub a-most : aAt timing p ≤ mostRate
   pub b-some : 0 < bAt timing p
   pub b-most : bAt timing p ≤ mostRate
+  pub lowest : Coprime (aAt timing p) (bAt timing p)
   pub start-most : startAt timing p ≤ mostStart
 
 -- the numbers of a table's ports

@@ -2,10 +2,11 @@
 ghost use Rattle.table.specs.Slices.{tableOf};
 ghost use Rattle.table.specs.Limits.{WellFormed};
 ghost use Prim.Native.Nat.{_≤_};
+ghost use mathlib.Core.Path.{_≡_};
 ghost use lib.ListN.{length};
 ghost use Rattle.ways.specs.Labels.{Components};
 ghost use Rattle.forest.specs.PortRows.{MostPart};
-ghost use Rattle.weights.specs.Ratios.{IsRatios};
+ghost use Rattle.weights.specs.Ratios.{numberOf, IsRatios};
 use crate::weights;
 use exponents::divisors;
 use exponents::primes;
@@ -24,6 +25,17 @@ pub enum Agreement {
     Disagreeing(usize),
     // Some weight passes 10,000: 14.
     Passing,
+}
+
+// Document 01's number for it.
+pub fn number_of(agreement: Agreement) -> u64
+    ensures { λ r. ⌜ r ≡ numberOf agreement ⌝ }
+{
+    match agreement {
+        Agreement::Agreeing => 0,
+        Agreement::Disagreeing(_) => 13,
+        Agreement::Passing => 14,
+    }
 }
 
 pub struct Ratios {

@@ -13,8 +13,7 @@ use Rattle.ways.specs.Model.{IsPort, IsLink, from, to}
 use Rattle.ways.specs.Ways.{Component}
 use Rattle.forest.specs.Forest.{Ends}
 use Rattle.forest.specs.PortRows.{rowOf, valueOf, Fits, Near, MostPart}
-use Rattle.forest.specs.Spreading.{entered, Child, Spreading, Extended}
-use Rattle.forest.specs.declared.spanning.Forest.{Forest}
+use Rattle.forest.specs.Spreading.{PartForest, entered, Child, Spreading, Extended}
 use Rattle.forest.proofs.spanning.Numbers.{numbered-on, number-new, reached-other, reached-kept}
 
 -- a link fits as before where neither end's row changed
@@ -45,7 +44,7 @@ pub record LinkEnds (t : Table) (k p q times by : ℕ) : Type 0 where
   pub by-most : (m : ℕ) → MostPart t m → times ≢ by → by ≤ m
   pub fits : (rows : List (List ℕ)) → valueOf rows q * by ≡ valueOf rows p * times → Fits t rows k
 
-module _ {t : Table} {f f′ : Forest} {rows rows′ : List (List ℕ)} {k p q times by : ℕ} (s : Spreading t f rows) (l : LinkEnds t k p q times by) (x : Extended f rows p q k times by f′ rows′) where
+module _ {t : Table} {f f′ : PartForest} {rows rows′ : List (List ℕ)} {k p q times by : ℕ} (s : Spreading t f rows) (l : LinkEnds t k p q times by) (x : Extended f rows p q k times by f′ rows′) where
   -- a port that was reached keeps its number
   kept : (r : ℕ) → 0 < getD (f .reach) r 0 → getD (set (f .reach) q (f .count + 1)) r 0 ≡ getD (f .reach) r 0
   kept r h = reached-kept (f .reach) q (x .new) r (f .count + 1) h

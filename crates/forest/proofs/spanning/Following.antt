@@ -8,10 +8,9 @@ use lib.ListN.{length, getD, set}
 use Rattle.exponents.specs.Row.{rowValue, RoomToMultiply, RoomToDivide, Scaled}
 use Rattle.exponents.specs.RowLaws.{multiplied-above}
 use Rattle.forest.specs.PortRows.{rowOf}
-use Rattle.forest.specs.Spreading.{entered, Spreadable, RowMade, Followed}
-use Rattle.forest.specs.declared.spanning.Forest.{Forest}
+use Rattle.forest.specs.Spreading.{PartForest, entered, Spreadable, RowMade, Followed}
 
-module _ (f : Forest) (rows : List (List ℕ)) (p q k times by : ℕ) where
+module _ (f : PartForest) (rows : List (List ℕ)) (p q k times by : ℕ) where
   pub follow-unreached : getD (f .reach) p 0 ≡ 0 → Followed f rows p q k times by f rows
   follow-unreached e = record { case = inr (record { same = refl; rows-same = refl; done = λ h. absurd (omega arith) }) }
 

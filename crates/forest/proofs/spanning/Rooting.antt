@@ -9,8 +9,7 @@ use borrow.Author.Count.{below-more}
 use lib.ListN.{getD, set, replicate, length-set, length-replicate, getD-replicate, List·getD-eq-default}
 use lib.Seq.{getD-set-other}
 use Rattle.rounds.specs.Lists.{lt-or-le, sum}
-use Rattle.forest.specs.Spreading.{forestOf, Unreached, entered, Rootable, Rooted}
-use Rattle.forest.specs.declared.spanning.Forest.{Forest}
+use Rattle.forest.specs.Spreading.{PartForest, forestOf, Unreached, entered, Rootable, Rooted}
 use Rattle.forest.proofs.spanning.Numbers.{numbered-few, numbered-on, number-new, reached-kept}
 
 zeros : (n q : ℕ) → _≡_ {A = ℕ} (getD (replicate n 0) q 0) 0
@@ -21,7 +20,7 @@ sum-zeros zero = refl
 sum-zeros (suc n) = omega (arith, sum-zeros n)
 
 -- the ports below p are passed
-pub record Rooting (ports p : ℕ) (labels : List ℕ) (f : Forest) : Type 0 where
+pub record Rooting (ports p : ℕ) (labels : List ℕ) (f : PartForest) : Type 0 where
   pub within : p ≤ ports
   pub rooted : Rooted p labels f
 
@@ -42,7 +41,7 @@ rooting-none u = rw (u .no-reach, u .no-via) (record {
   };
 })
 
-module _ {ports p : ℕ} {labels : List ℕ} {f : Forest} (g : Rooting ports p labels f) where
+module _ {ports p : ℕ} {labels : List ℕ} {f : PartForest} (g : Rooting ports p labels f) where
   pub rooting-all : ports ≤ p → Rooted ports labels f
   rooting-all h = let e : p ≡ ports = omega (arith, g .within) in rw e at (g .rooted)
 

@@ -12,13 +12,12 @@ use Rattle.ways.specs.WayLaws.{linked, joined-sym, joined-component, component-
 use Rattle.ways.specs.Labels.{Components}
 use Rattle.forest.specs.Forest.{Ends, Reached}
 use Rattle.forest.specs.PortRows.{Spanned}
-use Rattle.forest.specs.Spreading.{Child, Spreading, Closed, Passed}
-use Rattle.forest.specs.declared.spanning.Forest.{Forest}
+use Rattle.forest.specs.Spreading.{PartForest, Child, Spreading, Closed, Passed}
 use Rattle.forest.proofs.spanning.Numbers.{numbered-few}
 use Rattle.forest.proofs.spanning.Starting.{near-more}
 
 -- a pass that reaches a port leaves fewer
-pub passed-less : {t : Table} {n : ℕ} {f f′ : Forest} {rows : List (List ℕ)} → Passed t n f f′ rows → f′ .count ≢ f .count
+pub passed-less : {t : Table} {n : ℕ} {f f′ : PartForest} {rows : List (List ℕ)} → Passed t n f f′ rows → f′ .count ≢ f .count
     → 64 - f′ .count < 64 - f .count
 passed-less p d = omega (arith, numbered-few (p .spreading .numbered), p .grown)
 
@@ -26,7 +25,7 @@ ends-joined : (t : Table) (k p q : ℕ) → IsLink t k → Ends t k p q → Join
 ends-joined t k p q i e =
     ⊎-elim (λ x. rw (x .0, x .1) at (joined-sym (linked i))) (λ x. rw (x .0, x .1) at (linked i)) e
 
-module _ {t : Table} {f : Forest} (closed : Closed t (linkCount t) f) where
+module _ {t : Table} {f : PartForest} (closed : Closed t (linkCount t) f) where
   step-reached : (k : ℕ) (b : Bool) → IsLink t k → 0 < getD (f .reach) (cond b (from t k) (to t k)) 0
       → 0 < getD (f .reach) (cond b (to t k) (from t k)) 0
   step-reached k true i h = closed .along k (i .below) h

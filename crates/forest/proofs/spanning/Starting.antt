@@ -11,8 +11,7 @@ use Rattle.ways.specs.Ways.{Component}
 use Rattle.ways.specs.WayLaws.{component-unique, joined-component, way-port}
 use Rattle.ways.specs.Labels.{Components}
 use Rattle.forest.specs.PortRows.{zeroRow, Near}
-use Rattle.forest.specs.Spreading.{Rootable, Rooted, Spreading}
-use Rattle.forest.specs.declared.spanning.Forest.{Forest}
+use Rattle.forest.specs.Spreading.{PartForest, Rootable, Rooted, Spreading}
 
 pub near-more : {row : List ℕ} {d e : ℕ} → Near row d → d ≤ e → Near row e
 near-more n h = record {
@@ -32,7 +31,7 @@ module _ {t : Table} (formed : WellFormed t) where
   pub start-rootable : Rootable (portCount t)
   start-rootable = record { few = formed .few-ports }
 
-  module _ {labels : List ℕ} {f : Forest} (components : Components t labels) (r : Rooted (portCount t) labels f) where
+  module _ {labels : List ℕ} {f : PartForest} (components : Components t labels) (r : Rooted (portCount t) labels f) where
     own-label : {p c : ℕ} → IsPort t p → Component t p c → 0 < getD (f .reach) c 0
     own-label {c = c} i m =
         let port : IsPort t c = way-port formed (m .joined .way) i in

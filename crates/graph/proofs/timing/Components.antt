@@ -135,6 +135,7 @@ module _ {t : Table} {labels weights : List ℕ} (l : Labelled t labels weights)
             a-most = omega (arith, a, at .small .num);
             b-some = omega (arith, b, at .period .over);
             b-most = omega (arith, b, at .small .den);
+            lowest = rw (a, b) (at .period .lowest);
             start-most = at .small-starts p (own-port p i);
           };
     }

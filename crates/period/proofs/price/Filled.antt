@@ -7,7 +7,8 @@ use native.Mathlib.Numerals.{add-one}
 use lib.ListN.{length, getD, set, take, length-append, length-set}
 use lib.Seq.{sets, sets-eq, length-take-le, take-at}
 use Rattle.table.specs.declared.Ticks.{Ticks}
-use Rattle.period.specs.Prices.{pricesTo, Pricing, PricesMade, SmallDelay}
+use Rattle.period.specs.Delay.{delayAt, SmallDelay}
+use Rattle.period.specs.Prices.{pricesTo, Pricing, PricesMade}
 
 -- the prices of the first k edges stand at the front of costs, which began as costs₀
 pub record Filled (edges : List ℕ) (a b : ℕ) (costs₀ costs : List ℕ) (k : ℕ) : Type 0 where
@@ -38,7 +39,7 @@ module _ {edges costs₀ : List ℕ} {a b : ℕ} where
   }
 
   pub filled-on : {costs : List ℕ} {k : ℕ} {cost : Ticks} → Pricing edges a b costs₀ → Filled edges a b costs₀ costs k → k < length edges / 6
-      → cost ≡ (getD edges (6 * k + 2) 0 * b + getD edges (6 * k + 4) 0 * a, getD edges (6 * k + 3) 0 * b + getD edges (6 * k + 5) 0 * a)
+      → cost ≡ delayAt (getD edges (6 * k + 2) 0, getD edges (6 * k + 3) 0) (getD edges (6 * k + 4) 0, getD edges (6 * k + 5) 0) a b
       → Filled edges a b costs₀
       (set (set (set (set costs (4 * k) (getD edges (6 * k) 0)) (4 * k + 1) (getD edges (6 * k + 1) 0)) (4 * k + 2) (cost .0)) (4 * k + 3) (cost .1))
       (k + 1)

@@ -91,6 +91,7 @@ module _ {ports limits edges rows₀ costs₀ starts₀ rows costs starts : List
     settled = λ yes. record {
       period = floored-period (s .floored) least;
       shown = s .floored .shown;
+      limit-within = s .within;
       least = least;
       rounds = run;
       small = record { num = s .floored .small-num; den = s .floored .small-den };
@@ -143,6 +144,7 @@ module _ {ports limits edges rows₀ costs₀ starts₀ rows costs starts : List
           above-zero = s .floored .above-zero;
           over = s .floored .over;
           lowest = s .floored .lowest;
+          small = record { num = s .floored .small-num; den = s .floored .small-den };
           shown = s .floored .shown;
           low = s .floored .low;
           block = floored-blocks (s .component .among) (s .component .few-ports) (s .component .small-edges) (s .floored) positive (omega (arith, m));

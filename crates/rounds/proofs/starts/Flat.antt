@@ -1,4 +1,4 @@
--- The search for a port that grew: none of the first p has. Assumes nothing.
+-- The search for the lowest port that grew: none of the first p has. Assumes nothing.
 use Prim.Native.Nat.{ℕ, _+_, _≤_, _<_}
 use mathlib.Core.List.{List}
 use native.Mathlib.Omega.{arith}
@@ -18,8 +18,8 @@ module _ {s t : List ℕ} where
     pub flat-on : p < 64 → getD t p 0 ≤ getD s p 0 → Flat s t (p + 1)
     flat-on l h = record { within = omega arith; flat = below-more _ p (f .flat) h }
 
-    pub flat-grown : p < 64 → getD s p 0 < getD t p 0 → Grown s t p
-    flat-grown l h = record { grew = λ _. h; none = λ e. absurd (omega arith) }
+    pub flat-grown : getD s p 0 < getD t p 0 → Grown s t p
+    flat-grown h = record { grew = λ _. h; lower = f .flat }
 
     pub flat-all : 64 ≤ p → Grown s t p
-    flat-all l = record { grew = λ d. absurd (d (omega (arith, f .within))); none = λ e i h. f .flat i (omega arith) }
+    flat-all l = record { grew = λ d. absurd (d (omega (arith, f .within))); lower = f .flat }

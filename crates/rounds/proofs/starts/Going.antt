@@ -13,7 +13,7 @@ use Rattle.rounds.specs.StartsLaws.{starts-length, starts-bound}
 use Rattle.rounds.specs.Advance.{put, Ahead, Advanced}
 use Rattle.rounds.proofs.starts.Buffer.{put-length, put-here, put-before}
 
--- each of r rounds changed something, and the last of them raised port j; the buffer, rows₀ before them, is rows
+-- each of r rounds changed something, and j is the lowest port that the last of them raised; the buffer, rows₀ before them, is rows
 pub record Going (cs : List ℕ) (n : ℕ) (rows₀ rows : List ℕ) (r j : ℕ) : Type 0 where
   pub fitting : Fitting cs rows n
   pub long : length rows ≡ length rows₀
@@ -21,6 +21,7 @@ pub record Going (cs : List ℕ) (n : ℕ) (rows₀ rows : List ℕ) (r j : ℕ)
   pub kept : Kept cs rows r
   pub moved : (q : ℕ) → q < r → starts cs (suc q) ≢ starts cs q
   pub grew : 0 < r → startOf cs (r - 1) j < startOf cs r j
+  pub lower : 0 < r → (i : ℕ) → i < j → startOf cs r i ≡ startOf cs (r - 1) i
 
 fitting-at : {cs rows rows′ : List ℕ} {n : ℕ} → Fitting cs rows n → length rows′ ≡ length rows → Fitting cs rows′ n
 fitting-at f e = record { edges = f .edges; some = f .some; few = f .few; room = omega arith }
@@ -37,6 +38,7 @@ going-none {cs} {rows} {rows′} f e =
       kept = record { rows-are = λ q l. let z : q ≡ 0 = omega arith in rw (z, e) (put-here rows 0 zeros (omega arith) ports) };
       moved = λ q l. absurd (omega arith);
       grew = λ l. absurd (omega arith);
+      lower = λ l. absurd (omega arith);
     }
 
 module _ {cs : List ℕ} {n : ℕ} {rows₀ rows : List ℕ} {r j : ℕ} (g : Going cs n rows₀ rows r j) (l : r < n) where
@@ -72,6 +74,9 @@ module _ {cs : List ℕ} {n : ℕ} {rows₀ rows : List ℕ} {r j : ℕ} (g : Go
     rose : i ≢ 64 → startOf cs r i < startOf cs (suc r) i
     rose d = rw (← next, ← here) (x .raised .grew d)
 
+    level : (k : ℕ) → k < i → startOf cs (suc r) k ≡ startOf cs r k
+    level k b = rw (← next, ← here) (x .raised .lower k b)
+
     -- the round raised port i
     pub going-on : i ≢ 64 → Going cs n rows₀ rows′ (r + 1) i
     going-on d =
@@ -84,6 +89,7 @@ module _ {cs : List ℕ} {n : ℕ} {rows₀ rows : List ℕ} {r j : ℕ} (g : Go
           kept = rw add-one kept′;
           moved = below-more (λ (q : ℕ). starts cs (suc q) ≢ starts cs q) r (g .moved) (λ z. omega (arith, rose d, ap (λ (s : List ℕ). getD s i 0) z));
           grew = λ _. rw (back, add-one) (rose d);
+          lower = λ _. rw (back, add-one) level;
         }
 
     -- the round changed nothing
@@ -99,4 +105,4 @@ pub going-all : {cs : List ℕ} {n : ℕ} {rows₀ rows : List ℕ} {r j : ℕ} 
 going-all {cs} {n} {rows₀} {rows} {r} {j} g l =
     let e : r ≡ n = omega arith in
     let h : Going cs n rows₀ rows n j = rw e at g in
-    record { kept = h .kept; moved = h .moved; grew = h .grew (omega arith) }
+    record { kept = h .kept; moved = h .moved; grew = h .grew (omega arith); lower = h .lower (omega arith) }

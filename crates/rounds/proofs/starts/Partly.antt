@@ -48,15 +48,19 @@ module _ {cs s : List ℕ} {k : ℕ} {t : List ℕ} (p : Partly cs s k t) where
 
   pub partly-all : {j : ℕ} → count cs ≤ k → Grown s t j → Round cs s t j
   unfolding roundOf
-  partly-all l g =
+  partly-all {j} l g =
       let e : k ≡ count cs = omega (arith, p .within) in
       record {
         made = rw e at (p .made);
         raised = record {
-          same = λ z. ext-getD 0 t s (p .long ∙ sym (p .low .ports)) (λ i h. omega (arith, g .none z i (omega (arith, p .long)), grows i));
+          same = λ z. ext-getD 0 t s (p .long ∙ sym (p .low .ports)) (λ i h. still i (omega (arith, p .long)));
           grew = g .grew;
+          lower = still;
         };
       }
     where
       grows : (i : ℕ) → getD s i 0 ≤ getD t i 0
       grows i = rw (p .made) (relaxed-round cs s k (λ i m. omega (arith, p .low .edges .to-in i (omega (arith, p .within)), p .low .ports)) .grows i)
+
+      still : (i : ℕ) → i < j → getD t i 0 ≡ getD s i 0
+      still i h = omega (arith, g .lower i h, grows i)

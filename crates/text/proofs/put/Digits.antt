@@ -6,7 +6,7 @@ use native.Mathlib.Omega.{arith}
 use native.Mathlib.Nat.{lt-of-not-le, one-le-pow, pow-le-pow-right, pow-suc}
 use borrow.Author.Tests.{lt-ltb, le-ltb}
 use Rattle.io.specs.Digits.{digits, Fewest}
-use Rattle.text.specs.Printed.{decimal, decimalIn}
+use Rattle.text.specs.Lines.{decimal, decimalIn}
 use Rattle.text.specs.Sizes.{decimal-size}
 use Rattle.text.specs.Put.{Put}
 

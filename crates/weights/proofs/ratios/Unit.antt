@@ -2,19 +2,14 @@
 use Prim.Native.Nat.{ℕ, _*_}
 use mathlib.Core.Path.{_≡_, ap₂, _∙_, sym}
 use mathlib.Core.List.{List}
-use native.Mathlib.Decide.{ℕ-discrete}
 use native.Mathlib.Omega.{arith}
 use Rattle.table.specs.Limits.{WellFormed}
 use Rattle.table.specs.Table.{Table, portCount}
-use Rattle.ways.specs.Model.{IsLink, from, to, num, den}
-use Rattle.forest.specs.PortRows.{MostPart}
+use Rattle.ways.specs.Model.{from, to}
+use Rattle.forest.specs.Parts.{greatestPart, zero-ones}
 use Rattle.weights.specs.Weighed.{Ones, HasWeights}
 
-module _ {t : Table} (formed : WellFormed t) (none : MostPart t 0) where
-  ratio-one : (k : ℕ) → IsLink t k → Dec (num t k ≡ den t k) → num t k ≡ den t k
-  ratio-one k i (yes e) = e
-  ratio-one k i (no d) = absurd (omega (arith, none .num-most k i d, formed .links k (i .below) .num .least))
-
+module _ {t : Table} (formed : WellFormed t) (none : greatestPart t ≡ 0) where
   pub unit-weights : {weights : List ℕ} → Ones (portCount t) weights → HasWeights t weights
   unit-weights {weights} o = record {
     long = o .long;
@@ -24,7 +19,7 @@ module _ {t : Table} (formed : WellFormed t) (none : MostPart t 0) where
         fits = λ k i.
             ap₂ (λ (x y : ℕ). x * y)
             (o .one (to t k) (formed .links k (i .below) .to) ∙ sym (o .one (from t k) (formed .links k (i .below) .from)))
-            (ratio-one k i (ℕ-discrete (num t k) (den t k)));
+            (zero-ones t formed none k i);
       };
       smallest = λ v h p i. omega (arith, o .one p (i .below), h .positive p i);
     };

@@ -5,7 +5,7 @@ use Prim.Native.Nat.{_-_}
 use native.Mathlib.Omega.{arith}
 use borrow.Author.Tests.{not-true, not-false}
 use borrow.Author.Needs.{needs}
-use Rattle.forest.proofs.agreement.TreeLinks.{end-low, over-known}
+use Rattle.forest.proofs.agreement.TreeLinks.{later-either, end-low, over-known}
 use Rattle.forest.proofs.agreement.Scanned.{Scanned, link-low, scanned-none, scanned-on, scanned-conflict, scanned-all}
 use Rattle.forest.proofs.agreement.conflict.Statement.{statement}
 use Rattle.forest.proofs.agreement.conflict.Tie as tie
@@ -29,13 +29,29 @@ later-requires : tie.Need-later-requires Inv-loop μ-loop
 later-requires c κs = let l = link-low (c .before .before .before .before .before .before .before .before .pre .0) (omega arith) (c .at .ensures) in (l .from, l .to)
 
 tree-link-requires : tie.Need-tree-link-requires Inv-loop μ-loop
-tree-link-requires c κs = end-low (c .before .before .before .before .before .before .before .before .before .pre .0) (omega arith) (c .before .at .ensures) (c .later .ensures)
+tree-link-requires c κs =
+    let l = c .before .at .result in
+    let end = later-either (c .before .before .before .before .before .before .before .before .before .args .reach .now) (l .from) (l .to) (c .later .ensures) in
+    end-low (c .before .before .before .before .before .before .before .before .before .pre .0) (omega arith) (c .before .at .ensures) end
 
 at-requires-2 : tie.Need-at-requires-2 Inv-loop μ-loop
-at-requires-2 c κs = (over-known (c .before .before .before .before .before .before .before .before .before .before .pre .0) (omega arith) (c .before .before .at .ensures) (c .before .later .ensures) (c .before .before .before .before .before .before .before .before .before .before .pre .1 .1 .0) (c .tree-link .ensures)) .below
+at-requires-2 c κs =
+    let l = c .before .before .at .result in
+    let end = later-either (c .before .before .before .before .before .before .before .before .before .before .args .reach .now) (l .from) (l .to) (c .before .later .ensures) in
+    let given = c .before .before .before .before .before .before .before .before .before .before .pre in
+    let args = c .before .before .before .before .before .before .before .before .before .before .args in
+    over-known (given .0) (omega arith) (c .before .before .at .ensures) end (args .labels .now) (args .via .now) (given .1 .1 .0) (c .tree-link .ensures) .below
 
 agrees-requires : tie.Need-agrees-requires Inv-loop μ-loop
-agrees-requires c κs = let x = over-known (c .before .before .before .before .before .before .before .before .before .before .before .pre .0) (omega arith) (c .before .before .before .at .ensures) (c .before .before .later .ensures) (c .before .before .before .before .before .before .before .before .before .before .before .pre .1 .1 .0) (c .before .tree-link .ensures) in (link-low (c .before .before .before .before .before .before .before .before .before .before .before .pre .0) (omega arith) (c .before .before .before .at .ensures), (link-low (c .before .before .before .before .before .before .before .before .before .before .before .pre .0) (x .below) (c .at2 .ensures), (c .before .before .before .before .before .before .before .before .before .before .before .pre .1 .0, (rw (c .at2 .ensures) (x .fits), c .before .before .before .before .before .before .before .before .before .before .before .pre .1 .1 .1))))
+agrees-requires c κs =
+    let l = c .before .before .before .at .result in
+    let end = later-either (c .before .before .before .before .before .before .before .before .before .before .before .args .reach .now) (l .from) (l .to) (c .before .before .later .ensures) in
+    let given = c .before .before .before .before .before .before .before .before .before .before .before .pre in
+    let args = c .before .before .before .before .before .before .before .before .before .before .before .args in
+    let known = over-known (given .0) (omega arith) (c .before .before .before .at .ensures) end (args .labels .now) (args .via .now) (given .1 .1 .0) (c .before .tree-link .ensures) in
+    let one = link-low (given .0) (omega arith) (c .before .before .before .at .ensures) in
+    let other = link-low (given .0) (known .below) (c .at2 .ensures) in
+    (one, (other, (given .1 .0, (rw (c .at2 .ensures) (known .fits), given .1 .1 .1))))
 
 returns : tie.Need-returns Inv-loop μ-loop
 returns c = scanned-conflict (c .before .before .before .before .before .before .before .loop .inv) (c .before .before .before .before .before .at .ensures) (c .before .agrees .ensures) (not-true (c .before .agrees .result) (c .if1 .taken))

@@ -1,6 +1,5 @@
--- Either result is one of the two. Assumes nothing.
-use mathlib.Core.Path.{refl}
-use mathlib.Core.Logic.{inl, inr}
+-- By the test. Assumes nothing.
+use borrow.Author.Tests.{lt-ltb, le-ltb}
 use borrow.Author.Needs.{needs}
 use Rattle.forest.proofs.agreement.later.Statement.{statement}
 use Rattle.forest.proofs.agreement.later.Tie as tie
@@ -18,10 +17,10 @@ element-copy-out-if1-2 : tie.Need-element-copy-out-if1-2
 element-copy-out-if1-2 c = search needs
 
 returns : tie.Need-returns
-returns c = inr refl
+returns c = rw (lt-ltb _ _ (c .if1 .taken))
 
 returns-2 : tie.Need-returns-2
-returns-2 c = inl refl
+returns-2 c = rw (le-ltb _ _ (c .if1 .left))
 
 pub later-spec : {M : Type 1} → statement M
 later-spec = tie.close (tie.spec mul-if1 element-copy-out-if1 mul-if1-2 element-copy-out-if1-2 returns returns-2)

@@ -1,5 +1,6 @@
 -- The ratios of links between the same ports are compared by products. Assumes nothing.
-use Rattle.forest.proofs.agreement.Parallels.{product-fits, parallel-along, parallel-against, parallel-no}
+use mathlib.Core.Logic.{⊎-elim}
+use Rattle.forest.proofs.agreement.Parallels.{product-fits, is-along, NotAlong, other-to, other-from, is-against, no-back, no-end}
 use Rattle.forest.proofs.agreement.parallel.Statement.{statement}
 use Rattle.forest.proofs.agreement.parallel.Tie as tie
 
@@ -10,7 +11,9 @@ mul-result-2 : tie.Need-mul-result-2
 mul-result-2 c = product-fits (c .before .before .before .before .before .before .before .before .pre .0 .den) (c .before .before .before .before .before .before .before .before .pre .1 .num)
 
 returns : tie.Need-returns
-returns c = parallel-along (c .before .before .before .before .before .before .before .before .pre .1) (c .before .before .before .before .before .if1 .taken) (c .before .before .if2 .taken)
+returns c =
+    is-along (c .before .before .before .before .before .before .before .before .args .l) (c .before .before .before .before .before .before .before .before .args .m)
+    (c .before .before .before .before .before .if1 .taken) (c .before .before .if2 .taken)
 
 mul-result-3 : tie.Need-mul-result-3
 mul-result-3 c = product-fits (c .before .before .before .before .before .before .before .before .before .before .pre .0 .num) (c .before .before .before .before .before .before .before .before .before .before .pre .1 .num)
@@ -19,13 +22,25 @@ mul-result-4 : tie.Need-mul-result-4
 mul-result-4 c = product-fits (c .before .before .before .before .before .before .before .before .before .before .before .pre .0 .den) (c .before .before .before .before .before .before .before .before .before .before .before .pre .1 .den)
 
 returns-2 : tie.Need-returns-2
-returns-2 c = parallel-against (c .before .before .before .before .before .before .before .before .before .before .before .pre .1) (c .before .before .before .before .before .if3 .taken) (c .before .before .if4 .taken)
+returns-2 c =
+    let l = c .before .before .before .before .before .before .before .before .before .before .before .args .l in
+    let m = c .before .before .before .before .before .before .before .before .before .before .before .args .m in
+    let other : NotAlong l m = ⊎-elim (λ w. other-to l m (w .0 .taken) (w .3 .left)) (λ w. other-from l m (w .left)) (c .before .before .before .before .before .before .before .before .if1 .came) in
+    is-against l m other (c .before .before .before .before .before .if3 .taken) (c .before .before .if4 .taken)
 
 returns-3 : tie.Need-returns-3
-returns-3 c = parallel-no
+returns-3 c =
+    let l = c .before .before .before .before .before .before .before .before .before .args .l in
+    let m = c .before .before .before .before .before .before .before .before .before .args .m in
+    let other : NotAlong l m = ⊎-elim (λ w. other-to l m (w .0 .taken) (w .3 .left)) (λ w. other-from l m (w .left)) (c .before .before .before .before .before .before .if1 .came) in
+    no-back l m other (c .before .before .before .if3 .taken) (c .if4 .left)
 
 returns-4 : tie.Need-returns-4
-returns-4 c = parallel-no
+returns-4 c =
+    let l = c .before .before .before .before .before .before .args .l in
+    let m = c .before .before .before .before .before .before .args .m in
+    let other : NotAlong l m = ⊎-elim (λ w. other-to l m (w .0 .taken) (w .3 .left)) (λ w. other-from l m (w .left)) (c .before .before .before .if1 .came) in
+    no-end l m other (c .if3 .left)
 
 pub parallel-spec : {M : Type 1} → statement M
 parallel-spec =

@@ -11,7 +11,7 @@ element-copy-out-if1 : tie.Need-element-copy-out-if1
 element-copy-out-if1 c = search needs
 
 returns : tie.Need-returns
-returns c = over-none
+returns c = over-none (c .before .before .args .labels .now) (c .before .before .args .via .now) (c .before .before .args .p) (c .before .before .args .other) (c .if1 .taken)
 
 mul-t5 : tie.Need-mul-t5
 mul-t5 c = search needs
@@ -20,7 +20,7 @@ element-copy-out-t8 : tie.Need-element-copy-out-t8
 element-copy-out-t8 c = search needs
 
 returns-2 : tie.Need-returns-2
-returns-2 c = over-via (c .before .if1 .left)
+returns-2 c = over-via (c .before .before .before .args .labels .now) (c .before .before .before .args .via .now) (c .before .before .before .args .p) (c .before .before .before .args .other) (c .before .if1 .left)
 
 pub tree-link-spec : {M : Type 1} → statement M
 tree-link-spec = tie.close (tie.spec mul-if1 element-copy-out-if1 returns mul-t5 element-copy-out-t8 returns-2)

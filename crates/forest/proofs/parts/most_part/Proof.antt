@@ -1,4 +1,4 @@
--- No part of a ratio passed so far is greater. The measure is how many links are left. Assumes nothing.
+-- It is the greatest part of the links passed so far. The measure is how many links are left. Assumes nothing.
 use Rattle.table.specs.Slices.{linksOf, tableOf}
 use lib.ListN.{length}
 use Prim.Native.Nat.{_-_}
@@ -40,7 +40,11 @@ loop-less : tie.Need-loop-less Inv-loop μ-loop
 loop-less c = search needs
 
 loop-again : tie.Need-loop-again Inv-loop μ-loop
-loop-again c = ⊎-elim (λ w. rw (w .3) (search (most-on, needs))) (λ w. rw (w .1) (search (most-off, needs))) (c .if1 .came)
+loop-again c =
+    ⊎-elim
+    (λ w. rw (w .3) (most-on (c .before .before .before .before .loop .inv) (c .before .before .num .ensures) (c .before .den .ensures) (omega arith) (w .0 .taken) (w .1 .ensures) (w .2 .ensures)))
+    (λ w. rw (w .1) (most-off (c .before .before .before .before .loop .inv) (c .before .before .num .ensures) (c .before .den .ensures) (omega arith) (w .0 .left)))
+    (c .if1 .came)
 
 returns : tie.Need-returns Inv-loop μ-loop
 returns c = most-all (c .before .loop .inv) (omega arith)

@@ -1,6 +1,8 @@
 -- 13, 14, or what the periods come to. Assumes nothing.
 use native.Mathlib.Omega.{arith}
 use lib.ListN.{length-take}
+use mathlib.Core.Path.{ap, _∙_}
+use Rattle.weights.specs.Ratios.{numberOf}
 use Rattle.graph.proofs.analysis.Outcomes.{labelled, disagrees, passes, decided-loop, decided-over}
 use borrow.Author.Needs.{needs}
 use Rattle.graph.proofs.analysis.decide.Statement.{statement}
@@ -12,26 +14,33 @@ slice-aggregate-ratios-of c = search needs
 ratios-of-requires : tie.Need-ratios-of-requires
 ratios-of-requires c κs = search needs
 
+number-of-requires : tie.Need-number-of-requires
+number-of-requires c κs = search needs
+
 enum-told : tie.Need-enum-told
 enum-told c = search needs
 
 time-requires : tie.Need-time-requires
-time-requires c κs = (labelled (c .before .before .before .before .before .before .before .before .ratios-of .ensures) (c .before .before .before .before .before .before .before .before .before .before .before .before .before .pre .0) (c .before .before .before .before .before .enum-told .given .1), c .before .before .before .before .before .before .before .before .before .before .before .before .before .pre .1)
+time-requires c κs =
+    let given = c .before .before .before .before .before .before .before .before .before .before .before .before .before .before .pre in
+    (labelled (c .before .before .before .before .before .before .before .before .before .ratios-of .ensures) (given .0) (c .before .before .before .before .before .enum-told .given .1), given .1)
 
 enum-known-agreement : tie.Need-enum-known-agreement
 enum-known-agreement c = search needs
 
 mul-loop-numbers : tie.Need-mul-loop-numbers
-mul-loop-numbers c = omega (arith, disagrees (c .before .before .before .before .before .ratios-of .ensures) (c .before .before .agreement .given .1) .few)
+mul-loop-numbers c = omega (arith, disagrees (c .before .before .before .before .before .before .ratios-of .ensures) (c .before .before .agreement .given .1) .few)
 
 array-share-prefix-loop-numbers : tie.Need-array-share-prefix-loop-numbers
-array-share-prefix-loop-numbers c = omega (arith, disagrees (c .before .before .before .before .before .ratios-of .ensures) (c .before .before .agreement .given .1) .few)
+array-share-prefix-loop-numbers c = omega (arith, disagrees (c .before .before .before .before .before .before .ratios-of .ensures) (c .before .before .agreement .given .1) .few)
 
 slice-aggregate-write-loop : tie.Need-slice-aggregate-write-loop
-slice-aggregate-write-loop c = simp length-take (omega (arith, disagrees (c .before .before .before .before .before .before .ratios-of .ensures) (c .before .before .before .agreement .given .1) .few))
+slice-aggregate-write-loop c = simp length-take (omega (arith, disagrees (c .before .before .before .before .before .before .before .ratios-of .ensures) (c .before .before .before .agreement .given .1) .few))
 
 write-loop-requires : tie.Need-write-loop-requires
-write-loop-requires c κs = simp length-take (omega (arith, disagrees (c .before .before .before .before .before .before .ratios-of .ensures) (c .before .before .before .agreement .given .1) .few, c .before .before .before .before .before .before .before .before .before .before .before .pre .1))
+write-loop-requires c κs =
+    let loop = disagrees (c .before .before .before .before .before .before .before .ratios-of .ensures) (c .before .before .before .agreement .given .1) in
+    simp length-take (omega (arith, loop .few, c .before .before .before .before .before .before .before .before .before .before .before .before .pre .1))
 
 enum-told-2 : tie.Need-enum-told-2
 enum-told-2 c = search needs
@@ -46,10 +55,15 @@ same-length-2 : tie.Need-same-length-2
 same-length-2 c = search needs
 
 returns-2 : tie.Need-returns-2
-returns-2 c = decided-loop (disagrees (c .before .before .before .before .before .before .before .before .before .ratios-of .ensures) (c .before .before .before .before .before .before .agreement .given .1)) (search needs) (c .before .before .write-loop .ensures)
+returns-2 c =
+    let is = c .before .before .before .before .before .before .agreement .given .1 in
+    let loop = disagrees (c .before .before .before .before .before .before .before .before .before .before .ratios-of .ensures) is in
+    rw (c .before .before .before .before .before .before .before .before .number-of .ensures ∙ ap numberOf is) (decided-loop loop (search needs) (c .before .before .write-loop .ensures))
 
 returns-3 : tie.Need-returns-3
-returns-3 c = decided-over _ (passes (c .before .before .before .ratios-of .ensures) (c .enum-told2 .given .1))
+returns-3 c =
+    let is = c .enum-told2 .given .1 in
+    rw (c .before .before .number-of .ensures ∙ ap numberOf is) (decided-over _ (passes (c .before .before .before .before .ratios-of .ensures) is))
 
 pub decide-spec : {M : Type 1} → statement M
 decide-spec =
@@ -57,6 +71,7 @@ decide-spec =
     (tie.spec
     slice-aggregate-ratios-of
     ratios-of-requires
+    number-of-requires
     enum-told
     time-requires
     enum-known-agreement

@@ -1,9 +1,9 @@
--- `period::limit::greatest_limit` meets its contract. The invariant: greatest is the rate limit of port, the greatest of the first i ports. The measure is how many ports are left. Assumes nothing.
+-- `period::limit::greatest_limit` meets its contract. The invariant: greatest is the rate limit of port, the first with the greatest among the first i ports. The measure is how many ports are left. Assumes nothing.
 use mathlib.Core.Logic.{⊎-elim}
 use Prim.Native.Nat.{_-_}
 use lib.ListN.{length}
 use borrow.Author.Needs.{needs}
-use Rattle.period.proofs.limit.Leading.{Leading, has-limit, leading-over, leading-first, leading-new, leading-kept, leading-last}
+use Rattle.period.proofs.limit.Leading.{Leading, has-limit, leading-first, leading-new, leading-kept, leading-last}
 use Rattle.period.proofs.limit.greatest_limit.Statement.{statement}
 use Rattle.period.proofs.limit.greatest_limit.Tie as tie
 
@@ -48,13 +48,14 @@ loop-less c = search needs
 
 loop-again : tie.Need-loop-again Inv-loop μ-loop
 loop-again c =
+    let turn = c .before .before .before .before in
+    let asked = turn .before .before .before .before .before .before .pre in
+    let led = turn .before .loop .inv in
+    let more = turn .loop-test .taken in
     ⊎-elim
-    (λ w. rw (w .2, w .3) (leading-new (c .before .before .before .before .before .before .before .before .before .before .pre) (c .before .before .before .before .before .loop .inv) (c .before .before .before .before .loop-test .taken) (c .before .before .limit-of2 .ensures) (c .before .less .ensures) (w .0 .taken)))
-    (λ w. rw (w .1, w .2) (leading-kept (c .before .before .before .before .before .before .before .before .before .before .pre) (c .before .before .before .before .before .loop .inv) (c .before .before .before .before .loop-test .taken) (c .before .before .limit-of2 .ensures) (c .before .less .ensures) (w .0 .left)))
+    (λ w. rw (w .2, w .3) (leading-new asked led more (c .before .before .limit-of2 .ensures) (c .before .less .ensures) (w .0 .taken)))
+    (λ w. rw (w .1, w .2) (leading-kept asked led more (c .before .before .limit-of2 .ensures) (c .before .less .ensures) (w .0 .left)))
     (c .if1 .came)
-
-reduced-requires : tie.Need-reduced-requires Inv-loop μ-loop
-reduced-requires c κs = search (leading-over, needs)
 
 returns : tie.Need-returns Inv-loop μ-loop
 returns c = search (leading-last, needs)
@@ -77,5 +78,4 @@ greatest-limit-spec =
     add-i
     loop-less
     loop-again
-    reduced-requires
     returns)

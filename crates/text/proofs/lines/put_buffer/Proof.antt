@@ -1,5 +1,6 @@
 -- The fields, one behind another. Assumes nothing.
-use Rattle.text.specs.Printed.{bufferLine}
+use Rattle.text.specs.Lines.{bufferLine}
+use Rattle.text.specs.Printed.{bufferAt}
 use Rattle.text.specs.Put.{_⨾_}
 use borrow.Author.Needs.{needs}
 use Rattle.text.proofs.lines.put_buffer.Statement.{statement}
@@ -39,8 +40,13 @@ same-length : tie.Need-same-length
 same-length c = search needs
 
 returns : tie.Need-returns
-unfolding bufferLine
-returns c = rw (← c .before .before .before .before .before .before .before .before .before .before .before .before .before .before .number-at .ensures .0, ← c .before .before .before .before .before .before .before .before .number-at2 .ensures .0) (c .before .before .before .before .before .before .before .before .before .before .before .before .before .put-field .ensures .0 ⨾ c .before .before .before .before .before .before .before .put-field2 .ensures .0 ⨾ c .before .before .put .ensures)
+unfolding bufferAt bufferLine
+returns c = rw (
+  ← c .before .before .before .before .before .before .before .before .before .before .before .before .before .before .number-at .ensures .0,
+  ← c .before .before .before .before .before .before .before .before .number-at2 .ensures .0,
+) (c .before .before .before .before .before .before .before .before .before .before .before .before .before .put-field .ensures .0
+    ⨾ c .before .before .before .before .before .before .before .put-field2 .ensures .0
+    ⨾ c .before .before .put .ensures)
 
 pub put-buffer-spec : {M : Type 1} → statement M
 put-buffer-spec =

@@ -1,5 +1,6 @@
 -- The field, and the end of the line. Assumes nothing.
-use Rattle.text.specs.Printed.{floorLine}
+use Rattle.text.specs.Lines.{floorPortLine}
+use Rattle.text.specs.Printed.{floorAt}
 use Rattle.text.specs.Put.{_⨾_}
 use borrow.Author.Needs.{needs}
 use Rattle.text.proofs.lines.put_floor.Statement.{statement}
@@ -27,7 +28,7 @@ same-length : tie.Need-same-length
 same-length c = search needs
 
 returns : tie.Need-returns
-unfolding floorLine
+unfolding floorAt floorPortLine
 returns c = rw (← c .before .before .before .before .before .before .before .before .number-at .ensures .0) (c .before .before .before .before .before .before .before .put-field .ensures .0 ⨾ c .before .before .put .ensures)
 
 pub put-floor-spec : {M : Type 1} → statement M

@@ -1,5 +1,6 @@
 -- The word, the steps and the end of the line. Assumes nothing.
-use Rattle.text.specs.Printed.{loopLine}
+use Rattle.text.specs.Lines.{itemsLine}
+use Rattle.text.specs.Printed.{loopAt}
 use Rattle.text.specs.Put.{_⨾_}
 use borrow.Author.Needs.{needs}
 use Rattle.text.proofs.lines.put_loop.Statement.{statement}
@@ -27,7 +28,7 @@ same-length : tie.Need-same-length
 same-length c = search needs
 
 returns : tie.Need-returns
-unfolding loopLine
+unfolding loopAt itemsLine
 returns c = c .before .before .before .before .before .before .before .before .before .before .before .put .ensures ⨾ c .before .before .before .before .before .before .before .put-steps .ensures .0 ⨾ c .before .before .put2 .ensures
 
 pub put-loop-spec : {M : Type 1} → statement M

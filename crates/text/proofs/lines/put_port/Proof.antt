@@ -1,7 +1,7 @@
--- The fields are the numbers of the record; a weight of 16 bits times a of 32 fits. Assumes nothing.
-use native.Mathlib.Omega.{arith}
-use native.Mathlib.Nat.{mul-le-mul}
-use Rattle.text.specs.Printed.{portLine}
+-- The fields are the numbers of the record; the period is a/b times the weight. Assumes nothing.
+use Rattle.text.specs.Lines.{portLine}
+use Rattle.text.specs.Printed.{portAt}
+use Rattle.text.proofs.lines.Period.{times-fits, period-is}
 use borrow.Author.Needs.{needs}
 use Rattle.text.proofs.lines.put_port.Statement.{statement}
 use Rattle.text.proofs.lines.put_port.Tie as tie
@@ -36,8 +36,16 @@ add-number-at-5 c = search needs
 number-at-requires-5 : tie.Need-number-at-requires-5
 number-at-requires-5 c κs = search needs
 
-mul-put-port-text : tie.Need-mul-put-port-text
-mul-put-port-text c = omega (arith, mul-le-mul (c .before .before .before .before .number-at2 .ensures .1) (c .before .before .before .number-at3 .ensures .1))
+reduced-requires : tie.Need-reduced-requires
+reduced-requires c κs = search needs
+
+times-requires : tie.Need-times-requires
+times-requires c κs =
+    let over = rw (← c .before .before .number-at4 .ensures .0) at (c .before .before .before .before .before .before .before .before .pre .1 .0) in
+    times-fits _ _ over (c .reduced .ensures) (c .before .before .before .number-at3 .ensures .1) (c .before .before .before .before .number-at2 .ensures .1)
+
+reduced-requires-2 : tie.Need-reduced-requires-2
+reduced-requires-2 c κs = search needs
 
 put-port-text-requires : tie.Need-put-port-text-requires
 put-port-text-requires c κs = search needs
@@ -46,8 +54,19 @@ same-length : tie.Need-same-length
 same-length c = search needs
 
 returns : tie.Need-returns
-unfolding portLine
-returns c = rw (← c .before .before .before .before .before .before .before .before .number-at .ensures .0, ← c .before .before .before .before .before .before .before .number-at2 .ensures .0, ← c .before .before .before .before .before .before .number-at3 .ensures .0, ← c .before .before .before .before .before .number-at4 .ensures .0, ← c .before .before .before .before .number-at5 .ensures .0) (c .before .before .put-port-text .ensures)
+unfolding portAt portLine
+returns c =
+    let over = rw (← c .before .before .before .before .before .before .before .before .number-at4 .ensures .0) at (c .before .before .before .before .before .before .before .before .before .before .before .before .before .before .pre .1 .0) in
+    let period = period-is _ _ over (c .before .before .before .before .before .before .reduced .ensures) _ (c .before .before .before .before .before .times .ensures) in
+    rw (
+      ← c .before .before .before .before .before .before .before .before .before .before .before .number-at .ensures .0,
+      ← c .before .before .before .before .before .before .before .before .before .before .number-at2 .ensures .0,
+      ← c .before .before .before .before .before .before .before .before .before .number-at3 .ensures .0,
+      ← c .before .before .before .before .before .before .before .before .number-at4 .ensures .0,
+      ← c .before .before .before .before .before .before .before .number-at5 .ensures .0,
+      ← period,
+      ← c .before .before .before .reduced2 .ensures,
+    ) (c .before .before .put-port-text .ensures)
 
 pub put-port-spec : {M : Type 1} → statement M
 put-port-spec =
@@ -63,7 +82,9 @@ put-port-spec =
     number-at-requires-4
     add-number-at-5
     number-at-requires-5
-    mul-put-port-text
+    reduced-requires
+    times-requires
+    reduced-requires-2
     put-port-text-requires
     same-length
     returns)

@@ -1,5 +1,5 @@
 -- The fields, one behind another. Assumes nothing.
-use Rattle.text.specs.Printed.{portText}
+use Rattle.text.specs.Lines.{portText}
 use Rattle.text.specs.Put.{_⨾_}
 use borrow.Author.Needs.{needs}
 use Rattle.text.proofs.lines.put_port_text.Statement.{statement}
@@ -46,7 +46,13 @@ same-length c = search needs
 
 returns : tie.Need-returns
 unfolding portText
-returns c = c .before .before .before .before .before .before .before .before .before .before .before .before .before .before .before .before .before .before .before .before .before .before .before .before .before .before .before .put-field .ensures .0 ⨾ c .before .before .before .before .before .before .before .before .before .before .before .before .before .before .before .before .before .before .before .before .before .before .put-field2 .ensures .0 ⨾ c .before .before .before .before .before .before .before .before .before .before .before .before .before .before .before .before .before .put-field3 .ensures .0 ⨾ c .before .before .before .before .before .before .before .before .before .before .before .before .put-fraction-field .ensures .0 ⨾ c .before .before .before .before .before .before .before .put-fraction-field2 .ensures .0 ⨾ c .before .before .put .ensures
+returns c =
+    c .before .before .before .before .before .before .before .before .before .before .before .before .before .before .before .before .before .before .before .before .before .before .before .before .before .before .before .put-field .ensures .0
+    ⨾ c .before .before .before .before .before .before .before .before .before .before .before .before .before .before .before .before .before .before .before .before .before .before .put-field2 .ensures .0
+    ⨾ c .before .before .before .before .before .before .before .before .before .before .before .before .before .before .before .before .before .put-field3 .ensures .0
+    ⨾ c .before .before .before .before .before .before .before .before .before .before .before .before .put-fraction-field .ensures .0
+    ⨾ c .before .before .before .before .before .before .before .put-fraction-field2 .ensures .0
+    ⨾ c .before .before .put .ensures
 
 pub put-port-text-spec : {M : Type 1} → statement M
 put-port-text-spec =

@@ -1,6 +1,5 @@
--- By the test. Assumes nothing.
-use borrow.Author.Tests.{eq-eqb, ne-eqb}
-use Rattle.text.specs.Printed.{signWord}
+-- By the direction. Assumes nothing.
+use Rattle.text.specs.Lines.{signWord}
 use borrow.Author.Needs.{needs}
 use Rattle.text.proofs.lines.put_sign.Statement.{statement}
 use Rattle.text.proofs.lines.put_sign.Tie as tie
@@ -16,7 +15,7 @@ same-length c = search needs
 
 returns : tie.Need-returns
 unfolding signWord
-returns c = (rw (eq-eqb _ _ (c .before .before .before .before .before .if1 .taken)) (c .before .before .put .ensures), search needs)
+returns c = (rw (c .before .before .before .before .before .if1 .taken) (c .before .before .put .ensures), search needs)
 
 slice-aggregate-put-2 : tie.Need-slice-aggregate-put-2
 slice-aggregate-put-2 c = search needs
@@ -29,7 +28,7 @@ same-length-2 c = search needs
 
 returns-2 : tie.Need-returns-2
 unfolding signWord
-returns-2 c = (rw (ne-eqb _ _ (c .before .before .before .before .before .if1 .left)) (c .before .before .put2 .ensures), search needs)
+returns-2 c = (rw (c .before .before .before .before .before .if1 .left) (c .before .before .put2 .ensures), search needs)
 
 pub put-sign-spec : {M : Type 1} → statement M
 put-sign-spec =

@@ -1,5 +1,6 @@
 -- The sign, and the number behind it. Assumes nothing.
-use Rattle.text.specs.Printed.{stepText}
+use Rattle.text.specs.Lines.{stepText}
+use Rattle.text.specs.Printed.{stepAt}
 use Rattle.text.specs.Put.{_⨾_}
 use borrow.Author.Needs.{needs}
 use Rattle.text.proofs.lines.put_step.Statement.{statement}
@@ -24,8 +25,11 @@ same-length : tie.Need-same-length
 same-length c = search needs
 
 returns : tie.Need-returns
-unfolding stepText
-returns c = rw (← c .before .before .before .before .before .before .before .before .before .number-at .ensures .0, ← c .before .before .before .number-at2 .ensures .0) (c .before .before .before .before .before .before .before .put-sign .ensures .0 ⨾ c .before .before .put-decimal .ensures .0)
+unfolding stepAt stepText
+returns c = rw (
+  ← c .before .before .before .before .before .before .before .before .before .number-at .ensures .0,
+  ← c .before .before .before .number-at2 .ensures .0,
+) (c .before .before .before .before .before .before .before .put-sign .ensures .0 ⨾ c .before .before .put-decimal .ensures .0)
 
 pub put-step-spec : {M : Type 1} → statement M
 put-step-spec =

@@ -1,7 +1,7 @@
 -- By the steps that are put. Assumes nothing.
 use native.Mathlib.Omega.{arith}
 use Prim.Native.Nat.{_-_}
-use Rattle.text.specs.Printed.{stepText}
+use Rattle.text.specs.Printed.{stepAt}
 use Rattle.text.specs.Sizes.{step-size}
 use Rattle.text.proofs.lines.Items.{Listed, listed-none, listed-more, listed-end, listed-all}
 use borrow.Author.Needs.{needs}
@@ -9,7 +9,7 @@ use Rattle.text.proofs.lines.put_steps.Statement.{statement}
 use Rattle.text.proofs.lines.put_steps.Tie as tie
 
 abbrev Inv-loop : tie.InvT-loop
-Inv-loop s at n text₀ to end₀ i₀ text end i = Listed (stepText s) 4 at n text₀ text to end i
+Inv-loop s at n text₀ to end₀ i₀ text end i = Listed (stepAt s) 4 at n text₀ text to end i
 
 abbrev μ-loop : tie.MeasureT-loop
 μ-loop s at n text₀ to end₀ i₀ text end i = n - i

@@ -1,5 +1,6 @@
 -- The first line and the records' lines, one behind another; the text fits. Assumes nothing.
 use native.Mathlib.Omega.{arith}
+use Rattle.text.specs.Lines.{answerLine}
 use Rattle.text.specs.Printed.{printed}
 use Rattle.text.specs.Sizes.{printed-size}
 use Rattle.records.specs.WrittenLaws.{written-within}
@@ -27,8 +28,12 @@ same-length : tie.Need-same-length
 same-length c = search needs
 
 returns : tie.Need-returns
-unfolding printed
-returns c = let w = written (c .before .before .before .before .before .before .before .before .before .before .before .put-field .ensures .0 ⨾ c .before .before .before .before .before .before .put .ensures ⨾ c .before .before .put-records .ensures) (omega (arith, printed-size (c .before .before .before .before .before .before .before .before .before .before .before .before .before .before .before .before .args .number) (c .before .before .before .before .before .before .before .before .before .before .before .before .before .before .before .before .args .records .now) .within)) in (w, written-within w)
+unfolding printed answerLine
+returns c =
+    let given = c .before .before .before .before .before .before .before .before .before .before .before .before .before .before .before .before .args in
+    let room = printed-size (given .number) (given .records .now) .within in
+    let w = written (c .before .before .before .before .before .before .before .before .before .before .before .put-field .ensures .0 ⨾ c .before .before .before .before .before .before .put .ensures ⨾ c .before .before .put-records .ensures) (omega arith) in
+    (w, written-within w)
 
 pub print-spec : {M : Type 1} → statement M
 print-spec =

@@ -1,5 +1,5 @@
 -- The word, and the number behind it. Assumes nothing.
-use Rattle.text.specs.Printed.{field}
+use Rattle.text.specs.Lines.{field}
 use Rattle.text.specs.Put.{_⨾_}
 use borrow.Author.Needs.{needs}
 use Rattle.text.proofs.put.put_field.Statement.{statement}

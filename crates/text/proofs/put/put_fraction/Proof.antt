@@ -1,12 +1,9 @@
 -- The numerator, the stroke and the denominator, one behind another. Assumes nothing.
-use Rattle.text.specs.Printed.{fraction}
+use Rattle.text.specs.Lines.{fraction}
 use Rattle.text.specs.Put.{_⨾_}
 use borrow.Author.Needs.{needs}
 use Rattle.text.proofs.put.put_fraction.Statement.{statement}
 use Rattle.text.proofs.put.put_fraction.Tie as tie
-
-shown-as-requires : tie.Need-shown-as-requires
-shown-as-requires c κs = search needs
 
 put-decimal-requires : tie.Need-put-decimal-requires
 put-decimal-requires c κs = search needs
@@ -25,13 +22,12 @@ same-length c = search needs
 
 returns : tie.Need-returns
 unfolding fraction
-returns c = (rw (← c .before .before .before .before .before .before .before .before .before .before .before .before .before .shown-as .ensures) (c .before .before .before .before .before .before .before .before .before .before .before .put-decimal .ensures .0 ⨾ c .before .before .before .before .before .before .put .ensures ⨾ c .before .before .put-decimal2 .ensures .0), search needs)
+returns c = (c .before .before .before .before .before .before .before .before .before .before .before .put-decimal .ensures .0 ⨾ c .before .before .before .before .before .before .put .ensures ⨾ c .before .before .put-decimal2 .ensures .0, search needs)
 
 pub put-fraction-spec : {M : Type 1} → statement M
 put-fraction-spec =
     tie.close
     (tie.spec
-    shown-as-requires
     put-decimal-requires
     slice-aggregate-put
     put-requires

@@ -1,5 +1,5 @@
 -- The word, and the fraction behind it. Assumes nothing.
-use Rattle.text.specs.Printed.{fractionField}
+use Rattle.text.specs.Lines.{fractionField}
 use Rattle.text.specs.Put.{_⨾_}
 use borrow.Author.Needs.{needs}
 use Rattle.text.proofs.put.put_fraction_field.Statement.{statement}

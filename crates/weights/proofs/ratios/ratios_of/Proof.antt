@@ -1,5 +1,6 @@
 -- Where every ratio is 1 so is every weight; otherwise the rows tell. Assumes nothing.
-use mathlib.Core.Path.{refl}
+use mathlib.Core.Path.{refl, sym, _∙_}
+use Rattle.forest.specs.Parts.{greatest-most}
 use Rattle.weights.proofs.ratios.Unit.{unit-weights}
 use borrow.Author.Needs.{needs}
 use Rattle.weights.proofs.ratios.ratios_of.Statement.{statement}
@@ -18,10 +19,12 @@ ones-requires : tie.Need-ones-requires
 ones-requires c κs = search needs
 
 returns : tie.Need-returns
-returns c = record { components = c .before .before .before .before .components .ensures; outcome = (unit-weights (c .before .before .before .before .before .before .before .before .pre .0) (rw (c .before .before .if1 .taken) at (c .before .before .before .most-part .ensures)) (rw (c .before .count .ensures) at (c .ones .ensures)), refl) }
+returns c =
+    let ones = unit-weights (c .before .before .before .before .before .before .before .before .pre .0) (sym (c .before .before .before .most-part .ensures) ∙ c .before .before .if1 .taken) (rw (c .before .count .ensures) at (c .ones .ensures)) in
+    record { components = c .before .before .before .before .components .ensures; outcome = (ones, refl) }
 
 by-rows-requires : tie.Need-by-rows-requires
-by-rows-requires c κs = search needs
+by-rows-requires c κs = (c .before .before .before .before .before .before .before .pre .0, (c .before .before .before .components .ensures, (rw (c .before .before .most-part .ensures) (greatest-most _), c .before .before .before .before .before .before .before .pre .1)))
 
 same-length : tie.Need-same-length
 same-length c = search needs

@@ -1,0 +1,61 @@
+// Reading an input into a buffer, and whether it was read whole.
+ghost use mathlib.Core.Path.{_≡_};
+ghost use Prim.Native.Nat.{_+_, _^_, _≤_, _<_};
+ghost use lib.ListN.{length};
+ghost use Rattle.input.specs.Input.{AfterRead, Onward};
+
+// How many bytes stand at the front of the buffer, whether more may come, and whether a read failed.
+pub struct Input {
+    pub count: usize,
+    pub more: bool,
+    pub failed: bool,
+}
+
+// What a read came to that was to fill the buffer from `count` on: its result is 0 at the end of the input and negative where it failed.
+fn after_read(count: usize, got: isize, rest: &[u8]) -> Input
+    requires { ⌜ count + length (now rest) < 2 ^ 64 ⌝ }
+    ensures { λ r. ⌜ AfterRead count got (length (now (rest .entry))) r ⌝ }
+{
+    if got < 0 {
+        return Input {
+            count,
+            more: false,
+            failed: true,
+        };
+    }
+    let n = io::count(got, rest);
+    Input {
+        count: count + n,
+        more: n > 0,
+        failed: false,
+    }
+}
+
+// One read into the part of the buffer from `count` on.
+fn read_once(fd: i32, buf: &mut [u8], count: usize) -> Input
+    requires { ⌜ count ≤ length (now buf) ⌝ }
+    ensures { λ r. ⌜ Onward count (length (now (buf .entry))) r ⌝ }
+    ensures { λ _. ⌜ length (now (buf .exit)) ≡ length (now (buf .entry)) ⌝ }
+{
+    let got = libc::read(fd, &mut buf[count..]);
+    after_read(count, got, &buf[count..])
+}
+
+// Reads until the buffer is full, the input ends or a read fails. `io::read_full` does not tell the last two apart.
+pub fn fill(fd: i32, buf: &mut [u8]) -> Input
+    ensures { λ r. ⌜ r .count ≤ length (now (buf .exit)) ⌝ }
+    ensures { λ _. ⌜ length (now (buf .exit)) ≡ length (now (buf .entry)) ⌝ }
+{
+    let mut input = Input {
+        count: 0,
+        more: true,
+        failed: false,
+    };
+    while input.more {
+        if input.count == buf.len() {
+            return input;
+        }
+        input = read_once(fd, buf, input.count);
+    }
+    input
+}

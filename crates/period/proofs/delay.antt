@@ -1,0 +1,2 @@
+-- What the proof of `delay` uses. Assumes nothing.
+mod Bounds

@@ -1,0 +1,18 @@
+-- A delay in ticks and events at a period. Assumes nothing.
+use Prim.Native.Nat.{ℕ, _+_, _*_, _≤_}
+use Rattle.table.specs.declared.Ticks.{Ticks}
+use Rattle.table.specs.declared.Events.{Events}
+use Rattle.period.specs.Component.{mostPart, mostRate}
+
+-- the delay at the period a/b, in ticks over b: one event is a/b ticks
+abbrev pub delayAt : Ticks → Events → (a b : ℕ) → Ticks
+delayAt ticks events a b = (ticks .0 * b + events .0 * a, ticks .1 * b + events .1 * a)
+
+-- no part is large
+pub record SmallDelay (ticks : Ticks) (events : Events) (a b : ℕ) : Type 0 where
+  pub ticks-forward : ticks .0 ≤ mostPart
+  pub ticks-back : ticks .1 ≤ mostPart
+  pub events-forward : events .0 ≤ mostPart
+  pub events-back : events .1 ≤ mostPart
+  pub small-a : a ≤ mostRate
+  pub small-b : b ≤ mostRate

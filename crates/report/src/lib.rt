@@ -1,0 +1,48 @@
+// The text that the check program prints: the analysis of an input and the printed form of its answer, over slices.
+ghost use Prim.Native.Nat.{_≤_, _<_};
+ghost use mathlib.Core.Path.{_≡_};
+ghost use lib.ListN.{length, take};
+ghost use Rattle.report.specs.Report.{mostBytes, textRoom, PrintedText, Reported};
+use graph::analysis;
+use input::Input;
+use text::print;
+
+// The text of what was read into `space`, which holds a byte more than is analysed, so that a longer input shows.
+pub fn report(space: &[u8], read: Input, text: &mut [u8]) -> usize
+    requires { ⌜ mostBytes < length (now space) ⌝ }
+    requires { ⌜ read .count ≤ length (now space) ⌝ }
+    requires { ⌜ textRoom ≤ length (now text) ⌝ }
+    ensures { λ r. ⌜ Reported (take (read .count) (now (space .entry))) (read .failed) (now (text .entry)) (now (text .exit)) r ⌝ }
+{
+    if read.failed {
+        return print::print_line(b"answer unread\n", text);
+    }
+    let count = read.count;
+    if 65536 < count {
+        return print::print_line(b"answer long\n", text);
+    }
+    print_answer(&space[..count], text)
+}
+
+// Room for an input, with a byte more than is analysed.
+pub fn input_room() -> [u8; 65537]
+    ensures { λ r. ⌜ 65537 ≡ length r ⌝ }
+{
+    [0; 65537]
+}
+
+fn print_answer(s: &[u8], text: &mut [u8]) -> usize
+    requires { ⌜ textRoom ≤ length (now text) ⌝ }
+    ensures { λ r. ⌜ PrintedText (now (s .entry)) (now (text .entry)) (now (text .exit)) r ⌝ }
+{
+    let mut answer = answer_room();
+    let r = analysis::analyse(s, &mut answer);
+    let written = r.written;
+    print::print(r.number, &answer[..written], text)
+}
+
+fn answer_room() -> [u8; 5120]
+    ensures { λ r. ⌜ 5120 ≡ length r ⌝ }
+{
+    [0; 5120]
+}

@@ -1,0 +1,32 @@
+/* Analyses the table on standard input in a thread whose stack has exactly the bytes that the header states. */
+#include <pthread.h>
+#include <stdio.h>
+
+#include "../../bindings/vundayre.h"
+
+/* One byte more than is analysed, so that a longer input shows. */
+static uint8_t table[65537], answer[VUNDAYRE_ANSWER_BYTES];
+static size_t table_bytes;
+
+static void *analyse(void *outcome) {
+    *(struct vundayre_outcome *)outcome = vundayre_analyse(table, table_bytes, answer, sizeof answer);
+    return NULL;
+}
+
+int main(void) {
+    struct vundayre_outcome r;
+    pthread_attr_t attributes;
+    pthread_t thread;
+    table_bytes = fread(table, 1, sizeof table, stdin);
+    if (ferror(stdin) || table_bytes == sizeof table) {
+        fputs("the table was not read, or is too long\n", stderr);
+        return 2;
+    }
+    if (pthread_attr_init(&attributes) != 0 || pthread_attr_setstacksize(&attributes, VUNDAYRE_STACK_BYTES) != 0 ||
+        pthread_create(&thread, &attributes, analyse, &r) != 0 || pthread_join(thread, NULL) != 0) {
+        fprintf(stderr, "there is no thread with a stack of %d bytes here\n", VUNDAYRE_STACK_BYTES);
+        return 2;
+    }
+    printf("C, in a thread with a stack of %d bytes: answer %llu, %zu bytes\n", VUNDAYRE_STACK_BYTES, (unsigned long long)r.number, r.written);
+    return 0;
+}
