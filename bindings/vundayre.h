@@ -12,7 +12,7 @@ extern "C" {
 /* An answer buffer of this many bytes suffices for every table; a shorter one is refused with number 1. */
 #define VUNDAYRE_ANSWER_BYTES 5120
 
-/* A thread with a stack of this many bytes can analyse every table (its frames take 90,560 of them and it does not recurse; bench/run tries it
+/* A thread with a stack of this many bytes can analyse every table (its frames take 90,400 of them and it does not recurse; bench/run tries it
    out; it is not proved). */
 #define VUNDAYRE_STACK_BYTES 98304
 

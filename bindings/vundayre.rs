@@ -3,7 +3,7 @@
 /// An answer buffer of this many bytes suffices for every table; a shorter one is refused with number 1.
 pub const ANSWER_BYTES: usize = 5120;
 
-/// A thread with a stack of this many bytes can analyse every table (its frames take 90,560 of
+/// A thread with a stack of this many bytes can analyse every table (its frames take 90,400 of
 /// them and it does not recurse; `bench/run` tries it out; it is not proved).
 #[allow(dead_code)]
 pub const STACK_BYTES: usize = 98_304;

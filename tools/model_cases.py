@@ -2,7 +2,7 @@
 """Writes crates/models/stdin and stdout: tables that the program `models` is run on, and what it prints of them.
 
 The tables are those of the examples, models at the edges, random models, and one or more for each number without a model. What the program
-prints is checked, answer by answer, before it is written: number and lines by the exact solver of timing.py, or as said here beside the table;
+prints is checked, answer by answer, before it is written: number and lines by the exact solver of solver.py, or as said here beside the table;
 the loop, floor or block that is shown, which is free, by shown.py. Where an answer is wrong nothing is written, and the status is 1."""
 import argparse
 import glob
@@ -17,7 +17,7 @@ from collections import Counter
 from model import Link, Model, Port, link_bytes, port_bytes, record, table_bytes
 from shown import Wrong, check_blocked, check_loop
 from table_text import read_text
-from timing import analyse, printed
+from solver import analyse, printed
 
 random.seed(20261115)
 
@@ -161,6 +161,13 @@ def large():
     return long_chain(ports)
 
 
+def check_example(name, text):
+    """That what is printed of an example is what its .out has."""
+    with open(os.path.join(BASE, 'examples', name[:-len('.txt')] + '.out'), encoding='ascii') as out:
+        if out.read() != text:
+            raise Wrong('its .out is otherwise')
+
+
 def examples():
     """The models of the example texts, A to M of document 01 among them."""
     for path in sorted(glob.glob(os.path.join(BASE, 'examples', '*.txt'))):
@@ -210,6 +217,8 @@ def main():
     for at, (name, _, model, due) in enumerate(cases):
         try:
             check(model, due or printed(*analyse(model)), texts[at])
+            if name.endswith('.txt'):
+                check_example(name, texts[at])
         except Wrong as why:
             sys.exit(f'table {at} ({name}): {why}; printed is {texts[at]!a}')
         numbers[texts[at].split()[1]] += 1

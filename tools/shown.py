@@ -3,7 +3,7 @@ import re
 from fractions import Fraction
 
 from ratios import components, weights
-from timing import lowest_without_period
+from solver import lowest_without_period
 
 NUMBER = r'(?:0|[1-9][0-9]*)'
 LOOP = rf'loop((?: [+-]{NUMBER})+)'

@@ -1,10 +1,10 @@
--- A prime factor of a number up to 1,000. Assumes nothing.
+-- A prime factor of a number up to 1,000.
 use Prim.Native.Nat.{ℕ, _*_, _/_, _≤_, _<_}
 use mathlib.Core.Path.{_≡_}
 use mathlib.Core.List.{List}
 use native.Mathlib.Omega.{arith}
-use Rattle.fraction.specs.Divides.{divides-≤, quotient-is}
-use Rattle.fraction.specs.Prime.{Least, DivisorAboveOne, least-divisor-prime}
+use Rattle.numbers.specs.DivisorLaws.{divides-≤, quotient-is}
+use Rattle.numbers.specs.Prime.{Least, DivisorAboveOne, least-divisor-prime}
 use Rattle.exponents.specs.Divisors.{FromTwo, leastDivisors}
 use Rattle.exponents.specs.Primes.{places, primeAt, placeOf, Place, prime-place}
 

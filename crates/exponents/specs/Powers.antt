@@ -1,4 +1,4 @@
--- Products of prime powers: how they change with their exponents, and what divides them. Assumes nothing.
+-- Products of prime powers: how they change with their exponents, and what divides them.
 use Prim.Native.Nat.{ℕ, zero, suc, _+_, _*_, _^_, _≤_, _<_}
 use mathlib.Core.Path.{_≡_, refl, sym, ap, ap₂, _∙_}
 use mathlib.Core.Logic.{_≢_, ⊎-elim}
@@ -6,9 +6,10 @@ use native.Mathlib.Nat.{eq-or-lt-of-le, le-of-suc-le-suc, le-step, lt-suc-self, 
 use lib.Pow.{pow-add}
 use native.Mathlib.Numerals.{add-one}
 use native.Mathlib.Omega.{arith}
-use Rattle.fraction.specs.Divides.{Divides, divides-times}
-use Rattle.fraction.specs.Prime.{IsPrime, euclid, prime-not-one, prime-in-power, prime-in-prime}
-use Rattle.fraction.specs.Exponents.{powers, DistinctPrimes, fewer-primes}
+use Rattle.numbers.specs.Divisors.{Divides}
+use Rattle.numbers.specs.DivisorLaws.{divides-times}
+use Rattle.numbers.specs.Prime.{IsPrime, euclid, prime-not-one, prime-in-power, prime-in-prime}
+use Rattle.numbers.specs.Exponents.{powers, DistinctPrimes, fewer-primes}
 
 module _ (p : ℕ → ℕ) where
   pub powers-same : {e f : ℕ → ℕ} (n : ℕ) → ((k : ℕ) → k < n → e k ≡ f k) → powers p e n ≡ powers p f n

@@ -1,4 +1,4 @@
--- What the product of a row's powers asks. Assumes nothing.
+-- What the product of a row's powers asks.
 use Prim.Native.Nat.{ℕ, _≤_}
 
 -- the product so far and a prime: one more factor does not wrap

@@ -1,11 +1,11 @@
--- Rows of exponents, and what the functions on rows ask and give. Assumes nothing.
+-- Rows of exponents, and what the functions on rows ask and give.
 use Prim.Native.Nat.{ℕ, _+_, _*_, _-_, _≤_, _<_, min}
 use mathlib.Core.Path.{_≡_}
 use mathlib.Core.Logic.{_≢_}
 use mathlib.Core.Bool.{Bool, true, false}
 use mathlib.Core.List.{List, []}
 use lib.ListN.{length, getD, set}
-use Rattle.fraction.specs.Exponents.{powers}
+use Rattle.numbers.specs.Exponents.{powers}
 use Rattle.exponents.specs.Primes.{primeAt}
 
 -- the number that a row stands for

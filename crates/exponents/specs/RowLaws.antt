@@ -1,4 +1,4 @@
--- What a row and the number that it stands for say of each other. Assumes nothing.
+-- What a row and the number that it stands for say of each other.
 use Prim.Native.Nat.{ℕ, _*_, _-_, _≤_, _<_}
 use mathlib.Core.Path.{_≡_, sym, subst, _∙_}
 use mathlib.Core.List.{List}
@@ -7,9 +7,10 @@ use native.Mathlib.Decide.{decLt}
 use native.Mathlib.Omega.{arith}
 use lib.ListN.{length, getD}
 use lib.Seq.{ext-getD}
-use Rattle.fraction.specs.Divides.{Divides, divides-≤}
-use Rattle.fraction.specs.Prime.{IsPrime}
-use Rattle.fraction.specs.Exponents.{powers, exponents-unique}
+use Rattle.numbers.specs.Divisors.{Divides}
+use Rattle.numbers.specs.DivisorLaws.{divides-≤}
+use Rattle.numbers.specs.Prime.{IsPrime}
+use Rattle.numbers.specs.Exponents.{powers, exponents-unique}
 use Rattle.exponents.specs.Primes.{primeAt, listed, distinct-primes}
 use Rattle.exponents.specs.Row.{rowValue, Multiplied, Within, excess}
 use Rattle.exponents.specs.Powers.{powers-sum, powers-positive, power-divides, PrimeIn, prime-in-powers}

@@ -1,4 +1,4 @@
--- Tests that antt computes over a whole list, and what they say of each entry. Assumes nothing.
+-- Tests that antt computes over a whole list, and what they say of each entry.
 use mathlib.Core.Path.{_∙_, subst, sym}
 use mathlib.Core.Bool.{Bool, true, false}
 use mathlib.Core.Logic.{_⊎_, inl, inr}

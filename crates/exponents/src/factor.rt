@@ -1,7 +1,7 @@
 // A prime factor of a number, with its place.
 ghost use mathlib.Core.Path.{_≡_};
 ghost use Prim.Native.Nat.{_≤_};
-ghost use Rattle.fraction.specs.Prime.{Least, DivisorAboveOne};
+ghost use Rattle.numbers.specs.Prime.{Least, DivisorAboveOne};
 ghost use Rattle.exponents.specs.Divisors.{FromTwo, leastDivisors};
 ghost use Rattle.exponents.specs.Primes.{places, placeOf};
 ghost use Rattle.exponents.specs.Factor.{Lent, IsFactor};

@@ -3,7 +3,7 @@ ghost use mathlib.Core.Path.{_≡_};
 ghost use Prim.Native.Nat.{_*_, _^_, min};
 ghost use mathlib.Core.List.{[]};
 ghost use lib.ListN.{getD};
-ghost use Rattle.fraction.specs.Exponents.{powers};
+ghost use Rattle.numbers.specs.Exponents.{powers};
 ghost use Rattle.exponents.specs.Primes.{primes, primeAt};
 ghost use Rattle.exponents.specs.Row.{RowAt, Within, SameAbove, excess};
 ghost use Rattle.exponents.specs.Product.{Factors};

@@ -1,4 +1,4 @@
--- Which links the rows of exponents fit. Assumes nothing.
+-- Which links the rows of exponents fit.
 use Prim.Native.Nat.{ℕ, _*_, _≤_, _<_}
 use mathlib.Core.Path.{_≡_}
 use mathlib.Core.Logic.{_≢_}
@@ -6,8 +6,8 @@ use mathlib.Core.Bool.{Bool, true, false, cond, _&&_}
 use mathlib.Core.List.{List}
 use lib.ListN.{getD}
 use lib.Dec.{eqb, ltb}
-use Rattle.table.specs.declared.Link.{Link}
-use Rattle.table.specs.Table.{Table, linkCount}
+use Rattle.specification.specs.declared.Link.{Link}
+use Rattle.specification.specs.Table.{Table, linkCount}
 use Rattle.forest.specs.declared.agreement.Over.{Over}
 use Rattle.forest.specs.PortRows.{valueOf, Fits}
 

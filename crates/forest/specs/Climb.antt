@@ -1,15 +1,14 @@
--- The climb over the forest from both ends of a link. Assumes nothing.
+-- The climb over the forest from both ends of a link.
 use Prim.Native.Nat.{ℕ, _+_, _*_, _≤_, _<_}
 use mathlib.Core.Path.{_≡_}
 use mathlib.Core.Logic.{_⊎_, _≢_}
 use mathlib.Core.Bool.{false}
 use mathlib.Core.List.{List, _∷_, _++_, map}
 use lib.ListN.{length, getD}
-use Rattle.table.specs.Limits.{WellFormed}
-use Rattle.table.specs.Table.{Table}
-use Rattle.rounds.specs.Lists.{_∈_, Distinct}
-use Rattle.ways.specs.Model.{IsPort, IsLink, from}
-use Rattle.ways.specs.Ways.{Step, Way, leaves, comes}
+use Rattle.table.specs.WellFormed.{WellFormed}
+use Rattle.specification.specs.Table.{Table, IsPort, IsLink, from}
+use Rattle.numbers.specs.Lists.{_∈_, Distinct}
+use Rattle.specification.specs.Ratios.{Step, Way, leaves, comes}
 use Rattle.forest.specs.Forest.{Reached}
 use Rattle.forest.specs.StepNumbers.{stepOf, Stands}
 

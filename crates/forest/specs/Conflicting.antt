@@ -1,15 +1,14 @@
--- The loop that a link closes in a forest whose links the rows fit: where the rows do not fit that link, its ratios disagree. Assumes nothing.
+-- The loop that a link closes in a forest whose links the rows fit: where the rows do not fit that link, its ratios disagree.
 use Prim.Native.Nat.{ℕ, _*_}
 use mathlib.Core.Path.{_≡_, refl, ap}
 use mathlib.Core.Bool.{false}
 use mathlib.Core.List.{List, _∷_, map}
 use native.Mathlib.Nat.{eq-of-mul-eq-mul-right}
 use native.Mathlib.Omega.{arith}
-use Rattle.rounds.specs.Lists.{_∈_}
-use Rattle.table.specs.Limits.{WellFormed}
-use Rattle.table.specs.Table.{Table}
-use Rattle.ways.specs.Model.{from, to, num, den}
-use Rattle.ways.specs.Ways.{Step, Way, walk, above, below}
+use Rattle.numbers.specs.Lists.{_∈_}
+use Rattle.table.specs.WellFormed.{WellFormed}
+use Rattle.specification.specs.Table.{Table, from, to, num, den}
+use Rattle.specification.specs.Ratios.{Step, Way, walk, above, below}
 use Rattle.ways.specs.WayLaws.{above-positive}
 use Rattle.ways.specs.WeightLaws.{fitting-way}
 use Rattle.forest.specs.PortRows.{valueOf, Fits}

@@ -1,22 +1,21 @@
--- A spanning forest of a table's links: from each component's lowest port every other port was reached over one link. Assumes nothing.
+-- A spanning forest of a table's links: from each component's lowest port every other port was reached over one link.
 use Prim.Native.Nat.{ℕ, _≤_, _<_}
 use mathlib.Core.Path.{_≡_}
 use mathlib.Core.Logic.{_⊎_, _≢_}
 use mathlib.Core.List.{List}
 use lib.ListN.{length, getD}
-use Rattle.table.specs.Table.{Table}
-use Rattle.ways.specs.Model.{IsPort, IsLink, from, to}
+use Rattle.specification.specs.Table.{Table, IsPort, IsLink, from, to}
 
 -- the two ends of a link, in either order
-abbrev pub Ends : Table → ℕ → ℕ → ℕ → Type 0
-Ends t k p q = ((from t k ≡ p) × (to t k ≡ q)) ⊎ ((to t k ≡ p) × (from t k ≡ q))
+abbrev pub HasEnds : Table → ℕ → ℕ → ℕ → Type 0
+HasEnds t k p q = ((from t k ≡ p) × (to t k ≡ q)) ⊎ ((to t k ≡ p) × (from t k ≡ q))
 
 -- port p was reached over the link via p from a port that was reached before it, of the same component
 pub record Reached (t : Table) (labels reach via : List ℕ) (p : ℕ) : Type 0 where
   pub parent : ℕ
   pub a-port : IsPort t parent
   pub a-link : IsLink t (getD via p 0)
-  pub ends : Ends t (getD via p 0) p parent
+  pub ends : HasEnds t (getD via p 0) p parent
   pub earlier : getD reach parent 0 < getD reach p 0
   pub same-label : getD labels parent 0 ≡ getD labels p 0
 

@@ -1,4 +1,4 @@
--- The loop that a link closes in the forest, as numbers in a buffer: of each step the link's number and its direction. Assumes nothing.
+-- The loop that a link closes in the forest, as numbers in a buffer: of each step the link's number and its direction.
 use Prim.Native.Nat.{ℕ, zero, suc, _+_, _*_, _≤_, _<_}
 use mathlib.Core.Path.{_≡_}
 use mathlib.Core.Logic.{_≢_}
@@ -6,11 +6,10 @@ use mathlib.Core.Bool.{false}
 use mathlib.Core.List.{List, [], _∷_, map}
 use lib.ListN.{length, getD}
 use lib.Dec.{eqb}
-use Rattle.table.specs.Limits.{WellFormed}
-use Rattle.table.specs.Table.{Table}
-use Rattle.rounds.specs.Lists.{_∈_, Distinct}
-use Rattle.ways.specs.Model.{IsPort, IsLink, from}
-use Rattle.ways.specs.Ways.{Step, Way, comes}
+use Rattle.table.specs.WellFormed.{WellFormed}
+use Rattle.specification.specs.Table.{Table, IsPort, IsLink, from}
+use Rattle.numbers.specs.Lists.{_∈_, Distinct}
+use Rattle.specification.specs.Ratios.{Step, Way, comes}
 use Rattle.ways.specs.Labels.{Components}
 use Rattle.forest.specs.Forest.{Forest}
 

@@ -1,4 +1,4 @@
--- The greatest part of a table's ratios, ratios of 1 aside. Assumes nothing.
+-- The greatest part of a table's ratios, ratios of 1 aside.
 use Prim.Native.Nat.{ℕ, zero, suc, _≤_, _<_, max}
 use mathlib.Core.Path.{_≡_, refl}
 use mathlib.Core.Logic.{_≢_, ⊎-elim}
@@ -8,10 +8,9 @@ use native.Mathlib.Decide.{ℕ-discrete}
 use native.Mathlib.Omega.{arith}
 use borrow.Author.Tests.{eq-eqb, ne-eqb}
 use lib.Dec.{eqb}
-use Rattle.table.specs.Limits.{WellFormed}
-use Rattle.table.specs.Table.{Table, linkCount}
-use Rattle.ways.specs.Model.{IsLink, num, den}
-use Rattle.forest.specs.PortRows.{MostPart}
+use Rattle.table.specs.WellFormed.{WellFormed}
+use Rattle.specification.specs.Table.{Table, linkCount, IsLink, num, den}
+use Rattle.forest.specs.PortRows.{PartsAtMost}
 
 module _ (t : Table) where
   -- the greater part of the ratio of link k, or 0 where that is 1
@@ -40,7 +39,7 @@ module _ (t : Table) where
       ⊎-elim (λ e. rw e (omega arith)) (λ l. omega (arith, part-within n k l)) (eq-or-lt-of-le (le-of-suc-le-suc h))
 
   -- no part of a ratio other than 1 is greater
-  pub greatest-most : MostPart t greatestPart
+  pub greatest-most : PartsAtMost t greatestPart
   greatest-most = record {
     num-most = λ k i d. omega (arith, part-within (linkCount t) k (i .below), part-other k d);
     den-most = λ k i d. omega (arith, part-within (linkCount t) k (i .below), part-other k d);

@@ -1,4 +1,4 @@
--- A row of prime exponents for each port: rows that stand to each other as the periods do. Assumes nothing.
+-- A row of prime exponents for each port: rows that stand to each other as the periods do.
 use Prim.Native.Nat.{ℕ, _+_, _*_, _≤_, _<_}
 use mathlib.Core.Path.{_≡_}
 use mathlib.Core.Logic.{_≢_}
@@ -6,8 +6,7 @@ use mathlib.Core.List.{List, []}
 use lib.ListN.{length, getD, replicate}
 use Rattle.exponents.specs.Primes.{primeAt}
 use Rattle.exponents.specs.Row.{rowValue}
-use Rattle.table.specs.Table.{Table}
-use Rattle.ways.specs.Model.{IsPort, IsLink, from, to, num, den}
+use Rattle.specification.specs.Table.{Table, IsPort, IsLink, from, to, num, den}
 use Rattle.forest.specs.Forest.{Forest}
 
 abbrev pub rowOf : List (List ℕ) → ℕ → List ℕ
@@ -37,7 +36,7 @@ pub record PortRows (rows : List (List ℕ)) : Type 0 where
   pub near : (p : ℕ) → p < 64 → Near (rowOf rows p) 64
 
 -- no part of a ratio other than 1 is above m
-pub record MostPart (t : Table) (m : ℕ) : Type 0 where
+pub record PartsAtMost (t : Table) (m : ℕ) : Type 0 where
   pub num-most : (k : ℕ) → IsLink t k → num t k ≢ den t k → num t k ≤ m
   pub den-most : (k : ℕ) → IsLink t k → num t k ≢ den t k → den t k ≤ m
 
@@ -55,4 +54,4 @@ pub record Spanned (t : Table) (labels reach via : List ℕ) (rows : List (List 
   pub forest : Forest t labels reach via
   pub port-rows : PortRows rows
   pub over-forest : OverForest t labels via rows
-  pub up-to : (m : ℕ) → MostPart t m → RowsUpTo rows m
+  pub up-to : (m : ℕ) → PartsAtMost t m → RowsUpTo rows m

@@ -1,4 +1,4 @@
--- A forest while it spreads over the links: its ports in the order reached, and what one link and one pass do. Assumes nothing.
+-- A forest while it spreads over the links: its ports in the order reached, and what one link and one pass do.
 use Prim.Native.Nat.{ℕ, _+_, _*_, _≤_, _<_, min}
 use mathlib.Core.Path.{_≡_}
 use mathlib.Core.Logic.{_⊎_, _≢_}
@@ -6,13 +6,12 @@ use mathlib.Core.List.{List}
 use lib.ListN.{length, getD, set, replicate}
 use Rattle.exponents.specs.Primes.{primeAt}
 use Rattle.exponents.specs.Row.{rowValue}
-use Rattle.rounds.specs.Lists.{sum}
-use Rattle.table.specs.Limits.{PartFits}
-use Rattle.table.specs.Table.{Table, linkCount}
-use Rattle.ways.specs.Model.{IsPort, IsLink, from, to}
-use Rattle.ways.specs.Ways.{Component}
-use Rattle.forest.specs.Forest.{Ends}
-use Rattle.forest.specs.PortRows.{rowOf, Fits, Near, MostPart, RowsUpTo}
+use Rattle.numbers.specs.Lists.{sum}
+use Rattle.table.specs.WellFormed.{PartFits}
+use Rattle.specification.specs.Table.{Table, linkCount, IsPort, IsLink, from, to}
+use Rattle.specification.specs.Ratios.{Component}
+use Rattle.forest.specs.Forest.{HasEnds}
+use Rattle.forest.specs.PortRows.{rowOf, Fits, Near, PartsAtMost, RowsUpTo}
 
 -- the order in which the ports were reached, from 1 on (0: not yet), the link over which each was, and how many are
 pub record PartForest : Type 0 where
@@ -58,7 +57,7 @@ module _ (t : Table) where
       pub parent : ℕ
       pub a-port : IsPort t parent
       pub a-link : IsLink t (getD (f .via) p 0)
-      pub ends : Ends t (getD (f .via) p 0) p parent
+      pub ends : HasEnds t (getD (f .via) p 0) p parent
       pub parent-reached : 0 < getD (f .reach) parent 0
       pub earlier : getD (f .reach) parent 0 < getD (f .reach) p 0
       pub fits : Fits t rows (getD (f .via) p 0)
@@ -73,7 +72,7 @@ module _ (t : Table) where
       pub root-first : (p c : ℕ) → IsPort t p → Component t p c → 0 < getD (f .reach) p 0
           → getD (f .reach) c 0 ≤ getD (f .reach) p 0
       pub child : (p : ℕ) → IsPort t p → 0 < getD (f .reach) p 0 → ¬ Component t p p → Child p
-      pub up-to : (m : ℕ) → MostPart t m → RowsUpTo rows m
+      pub up-to : (m : ℕ) → PartsAtMost t m → RowsUpTo rows m
 
   -- no link below n has just one end reached
   pub record Closed (n : ℕ) (f : PartForest) : Type 0 where

@@ -1,10 +1,10 @@
--- Numbers of steps in a list: of each step the link's number and its direction, 0 along the link and 1 against it. Assumes nothing.
+-- Numbers of steps in a list: of each step the link's number and its direction, 0 along the link and 1 against it.
 use Prim.Native.Nat.{ℕ, _+_, _≤_, _<_}
 use mathlib.Core.Path.{_≡_}
 use mathlib.Core.List.{List, [], _∷_}
 use lib.ListN.{length, getD}
 use lib.Dec.{eqb}
-use Rattle.ways.specs.Ways.{Step}
+use Rattle.specification.specs.Ratios.{Step}
 use Rattle.forest.specs.Loop.{stepAt}
 
 -- the step over a link in a direction

@@ -1,13 +1,14 @@
 // Whether rows of exponents fit the ratios of the links.
 ghost use Rattle.exponents.specs.Factor.{Lent};
-ghost use Rattle.table.specs.Limits.{WellFormed, LinkFits};
+ghost use Rattle.table.specs.WellFormed.{WellFormed, LinkFits};
 ghost use Rattle.table.specs.Slices.{tableOf};
 ghost use Prim.Native.Nat.{_<_};
 ghost use mathlib.Core.Path.{_≡_};
 ghost use Rattle.forest.specs.PortRows.{PortRows, OverForest};
 ghost use Rattle.forest.specs.Agreement.{FitsRows, laterEnd, treeLink, isParallel, KnownToFit, FirstConflict};
 use exponents::row;
-use table::Link;
+use exponents::row::Row;
+use specification::Link;
 use table::links;
 
 // The link over which a port was reached, if one was.
@@ -17,7 +18,7 @@ struct Over {
 }
 
 // Whether the rows of a link's ends fit its ratio.
-fn fits(l: Link, rows: &[[u16; 168]; 64], divisors: &[u16], places: &[u16]) -> bool
+fn fits(l: Link, rows: &[Row; 64], divisors: &[u16], places: &[u16]) -> bool
     requires { ⌜ LinkFits 64 l ⌝ }
     requires { ⌜ PortRows (now rows) ⌝ }
     requires { ⌜ Lent (now divisors) (now places) ⌝ }
@@ -79,14 +80,7 @@ fn parallel(l: Link, m: Link) -> bool
 }
 
 // Whether the rows fit link l. Where they fit m, as `known` says, and l is parallel to it, they are not compared.
-fn agrees(
-    l: Link,
-    known: bool,
-    m: Link,
-    rows: &[[u16; 168]; 64],
-    divisors: &[u16],
-    places: &[u16],
-) -> bool
+fn agrees(l: Link, known: bool, m: Link, rows: &[Row; 64], divisors: &[u16], places: &[u16]) -> bool
     requires { ⌜ LinkFits 64 l ⌝ }
     requires { ⌜ LinkFits 64 m ⌝ }
     requires { ⌜ PortRows (now rows) ⌝ }
@@ -110,7 +104,7 @@ pub fn conflict(
     labels: &[usize; 64],
     reach: &[usize; 64],
     via: &[usize; 64],
-    rows: &[[u16; 168]; 64],
+    rows: &[Row; 64],
     divisors: &[u16],
     places: &[u16],
 ) -> usize

@@ -49,7 +49,7 @@ fn parent(
 }
 
 // One step's numbers at a place.
-fn put(numbers: &mut [u64], at: usize, link: usize, against: u64)
+fn put_step(numbers: &mut [u64], at: usize, link: usize, against: u64)
     requires { ⌜ StepRoom (now numbers) at ⌝ }
     ensures { λ _. ⌜ Put (now (numbers .entry)) (now (numbers .exit)) at link against ⌝ }
 {
@@ -73,7 +73,7 @@ fn climb(
     requires { ⌜ DownRoom (now down) ⌝ }
     ensures { λ r. ⌜ Met (tableOf (now (ports .entry)) (now (links .entry))) (now (labels .entry)) (now (reach .entry)) (now (via .entry)) k (now (numbers .exit)) (now (down .exit)) (r .next) (r .first) ⌝ }
 {
-    put(numbers, 0, k, 0);
+    put_step(numbers, 0, k, 0);
     let mut next: usize = 2;
     let mut first: usize = 128;
     let mut a = links::to(links, k);
@@ -81,13 +81,13 @@ fn climb(
     while a != b {
         if reach[b] < reach[a] {
             let up = parent(ports, links, labels, reach, via, a);
-            put(numbers, next, up.link, up.against);
+            put_step(numbers, next, up.link, up.against);
             next = next + 2;
             a = up.parent;
         } else {
             let up = parent(ports, links, labels, reach, via, b);
             first = first - 2;
-            put(down, first, up.link, 1 - up.against);
+            put_step(down, first, up.link, 1 - up.against);
             b = up.parent;
         }
     }
@@ -97,7 +97,7 @@ fn climb(
     }
 }
 
-// Copies the numbers from first on to the place next. Answers the place behind them.
+// Copies the numbers from first on to the place next. Returns the place behind them.
 fn append(numbers: &mut [u64], next: usize, down: &[u64; 128], first: usize) -> usize
     requires { ⌜ CopyRoom (now numbers) next first ⌝ }
     ensures { λ r. ⌜ Copied (now (down .entry)) (now (numbers .entry)) (now (numbers .exit)) first next 128 r ⌝ }
@@ -112,7 +112,7 @@ fn append(numbers: &mut [u64], next: usize, down: &[u64; 128], first: usize) -> 
     to
 }
 
-// Writes the loop of link k: k itself from its sender to its receiver, then over the forest back to the sender. Answers its steps.
+// Writes the loop of link k: k itself from its sender to its receiver, then over the forest back to the sender. Returns its steps.
 pub fn close(
     ports: &[u32],
     links: &[u32],

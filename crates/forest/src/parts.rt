@@ -1,13 +1,13 @@
 // The parts of a table's ratios.
 ghost use mathlib.Core.Path.{_≡_};
 ghost use Prim.Native.Nat.{max};
-ghost use Rattle.table.specs.Limits.{WellFormed};
+ghost use Rattle.table.specs.WellFormed.{WellFormed};
 ghost use Rattle.table.specs.Slices.{tableOf};
 ghost use Rattle.forest.specs.Parts.{greatestPart};
 use table::links;
 
 // The greatest part of a ratio, ratios of 1 aside; 0 where every ratio is 1.
-pub fn most_part(ports: &[u32], links: &[u32]) -> u64
+pub fn greatest_part(ports: &[u32], links: &[u32]) -> u64
     requires { ⌜ WellFormed (tableOf (now ports) (now links)) ⌝ }
     ensures { λ r. ⌜ r ≡ greatestPart (tableOf (now (ports .entry)) (now (links .entry))) ⌝ }
 {

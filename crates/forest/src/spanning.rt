@@ -1,5 +1,5 @@
 // A spanning forest over the links of a table, with a row of prime exponents for each port.
-ghost use Rattle.table.specs.Limits.{WellFormed};
+ghost use Rattle.table.specs.WellFormed.{WellFormed};
 ghost use Rattle.table.specs.Slices.{linksOf, tableOf};
 ghost use Rattle.ways.specs.Labels.{Components};
 ghost use mathlib.Core.Path.{_≡_};
@@ -8,6 +8,7 @@ ghost use Rattle.forest.specs.PortRows.{zeroRow, Spanned};
 ghost use Rattle.forest.specs.Spreading.{forestOf, Unreached, Rootable, Rooted, Spreading, Spreadable, RowMade, Followable, Followed, Passed};
 ghost use Rattle.exponents.specs.Factor.{Lent};
 use exponents::row;
+use exponents::row::Row;
 use table::links;
 use table::ports;
 
@@ -17,6 +18,15 @@ pub struct Forest {
     pub via: [usize; 64],
 }
 
+// A link from its end `from` to its end `to`: the row of `to` is that of `from` times `times`, divided by `by`.
+struct Crossing {
+    link: usize,
+    from: usize,
+    to: usize,
+    times: u64,
+    by: u64,
+}
+
 // From the lowest port of each component every other port is reached over one link; its row follows from that of the link's other end.
 // At first each row is that of exponent zero.
 // The last two slices are the tables that factors are looked up in.
@@ -24,7 +34,7 @@ pub fn spanned(
     ports: &[u32],
     links: &[u32],
     labels: &[usize; 64],
-    rows: &mut [[u16; 168]; 64],
+    rows: &mut [Row; 64],
     divisors: &[u16],
     places: &[u16],
 ) -> Forest
@@ -55,7 +65,7 @@ pub fn spanned(
     }
 }
 
-// The lowest port of each component, reached over no link. Answers how many these are.
+// The lowest port of each component, reached over no link. Returns how many these are.
 fn roots(
     ports: usize,
     labels: &[usize; 64],
@@ -79,14 +89,14 @@ fn roots(
     count
 }
 
-// One pass over the links: each with one end reached reaches the other. Before it so many ports are reached; answers how many are then.
+// One pass over the links: each with one end reached reaches the other. Before it so many ports are reached; returns how many are then.
 fn pass(
     ports: &[u32],
     links: &[u32],
     before: usize,
     reach: &mut [usize; 64],
     via: &mut [usize; 64],
-    rows: &mut [[u16; 168]; 64],
+    rows: &mut [Row; 64],
     divisors: &[u16],
     places: &[u16],
 ) -> usize
@@ -103,72 +113,66 @@ fn pass(
         let to = links::to(links, k);
         let num = links::num(links, k);
         let den = links::den(links, k);
-        count = follow(
-            count,
-            reach,
-            via,
-            rows,
+        let along = Crossing {
+            link: k,
             from,
             to,
-            k,
-            den,
-            num,
-            divisors,
-            places,
-        );
-        // And against its arrow.
-        let receiver = to;
-        count = follow(
-            count,
-            reach,
-            via,
-            rows,
-            receiver,
-            from,
-            k,
-            num,
-            den,
-            divisors,
-            places,
-        );
+            times: den,
+            by: num,
+        };
+        count = follow(count, reach, via, rows, along, divisors, places);
+        let against = Crossing {
+            link: k,
+            from: to,
+            to: from,
+            times: num,
+            by: den,
+        };
+        count = follow(count, reach, via, rows, against, divisors, places);
         k = k + 1;
     }
     count
 }
 
-// Link k from its end p to its end q: where only p is reached, q is, and its row is p's times `times`, divided by `by`.
+// Where only the end `from` is reached, the end `to` is, over the link.
 fn follow(
     count: usize,
     reach: &mut [usize; 64],
     via: &mut [usize; 64],
-    rows: &mut [[u16; 168]; 64],
-    p: usize,
-    q: usize,
-    k: usize,
-    times: u64,
-    by: u64,
+    rows: &mut [Row; 64],
+    crossing: Crossing,
     divisors: &[u16],
     places: &[u16],
 ) -> usize
-    requires { ⌜ Followable (forestOf (now reach) (now via) count) (now rows) p q times by ⌝ }
+    requires { ⌜ Followable (forestOf (now reach) (now via) count) (now rows) (crossing .from) (crossing .to) (crossing .times) (crossing .by) ⌝ }
     requires { ⌜ Lent (now divisors) (now places) ⌝ }
-    ensures { λ r. ⌜ Followed (forestOf (now (reach .entry)) (now (via .entry)) count) (now (rows .entry)) p q k times by (forestOf (now (reach .exit)) (now (via .exit)) r) (now (rows .exit)) ⌝ }
+    ensures { λ r. ⌜ Followed (forestOf (now (reach .entry)) (now (via .entry)) count) (now (rows .entry)) (crossing .from) (crossing .to) (crossing .link) (crossing .times) (crossing .by) (forestOf (now (reach .exit)) (now (via .exit)) r) (now (rows .exit)) ⌝ }
 {
-    if reach[p] == 0 {
+    let from = crossing.from;
+    let to = crossing.to;
+    if reach[from] == 0 {
         return count;
     }
-    if reach[q] != 0 {
+    if reach[to] != 0 {
         return count;
     }
-    spread(rows, p, q, times, by, divisors, places);
-    reach[q] = count + 1;
-    via[q] = k;
+    spread(
+        rows,
+        from,
+        to,
+        crossing.times,
+        crossing.by,
+        divisors,
+        places,
+    );
+    reach[to] = count + 1;
+    via[to] = crossing.link;
     count + 1
 }
 
 // The row of q: p's times `times`, divided by `by`.
 fn spread(
-    rows: &mut [[u16; 168]; 64],
+    rows: &mut [Row; 64],
     p: usize,
     q: usize,
     times: u64,

@@ -1,4 +1,4 @@
--- The fraction in lowest terms that equals num / den, and the order of fractions. Assumes nothing.
+-- The fraction in lowest terms that equals num / den, and the order of fractions.
 use Prim.Native.Nat.{ℕ, _*_, _/_, _^_, _≤_, _<_}
 use mathlib.Core.Path.{_≡_, sym, ap}
 use mathlib.Core.Bool.{Bool, true}
@@ -8,9 +8,10 @@ use native.Mathlib.Omega.{arith}
 use lib.Dec.{ltb}
 use borrow.Author.Tests.{ltb-true, lt-ltb}
 use Rattle.fraction.specs.declared.Fraction.{Fraction}
-use Rattle.fraction.specs.Divides.{divisor-positive, quotient-is}
-use Rattle.fraction.specs.Gcd.{gcd, gcd-is, gcd-positive, Coprime, coprime-one-right, gcd-quotients, coprime-unique}
-use Rattle.fraction.specs.Rational.{Rational, _≈_, _≺_, _·_, share}
+use Rattle.numbers.specs.DivisorLaws.{divisor-positive, quotient-is}
+use Rattle.numbers.specs.Gcd.{gcd, gcd-is, gcd-positive, coprime-one-right, gcd-quotients, coprime-unique}
+use Rattle.numbers.specs.Divisors.{Coprime}
+use Rattle.numbers.specs.Rationals.{Rational, _≈_, _≺_, _·_, share}
 
 -- num / den, with both parts divided by their greatest common divisor
 unfoldable pub lowestTerms : ℕ → ℕ → Fraction

@@ -1,4 +1,4 @@
--- The number that two words of 64 bits stand for. Assumes nothing.
+-- The number that two words of 64 bits stand for.
 use Prim.Native.Nat.{ℕ, _+_, _*_, _^_}
 use Rattle.fraction.specs.declared.wide.Wide.{Wide}
 

@@ -2,7 +2,7 @@
 ghost use mathlib.Core.Path.{_≡_};
 ghost use Prim.Native.Nat.{_*_, _^_, _<_};
 ghost use mathlib.Core.Bool.{true};
-ghost use Rattle.fraction.specs.Gcd.{Coprime};
+ghost use Rattle.numbers.specs.Divisors.{Coprime};
 ghost use Rattle.fraction.specs.Lowest.{lowestTerms, lessThan, Narrow};
 
 mod euclid;

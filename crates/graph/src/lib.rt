@@ -1,3 +1,2 @@
-// The analysis of a table: a number and records for every byte string and every answer buffer.
-pub mod analysis;
-mod timing;
+// The constraint graphs of a table: its connections by component, and what a search over them says of the graph (specs/).
+pub mod connections;

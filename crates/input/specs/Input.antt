@@ -1,4 +1,4 @@
--- What a read of an input comes to. Assumes nothing.
+-- What a read of an input comes to.
 use Prim.Native.Nat.{ℕ, _+_, _≤_, _<_, min}
 use mathlib.Core.Path.{_≡_, sym}
 use mathlib.Core.Bool.{true, false, true≢false}

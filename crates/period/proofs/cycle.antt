@@ -1,3 +1,3 @@
--- What the proof of `sums_of` uses. Assumes nothing.
+-- What the proof of `sums_of` uses.
 mod Total
 mod Summed

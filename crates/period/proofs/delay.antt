@@ -1,2 +1,2 @@
--- What the proof of `delay` uses. Assumes nothing.
+-- What the proof of `delay` uses.
 mod Bounds

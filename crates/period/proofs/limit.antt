@@ -1,3 +1,4 @@
--- What the proof of `greatest_limit` uses. Assumes nothing.
+-- What the proofs of `greatest_limit` and `limit_of` use.
 mod Below
+mod Read
 mod Leading

@@ -1,2 +1,2 @@
--- What the proof of `price` uses. Assumes nothing.
+-- What the proof of `price` uses.
 mod Filled

@@ -1,10 +1,10 @@
--- Two graphs with the same edges, ends and weights: what holds of one's cycles and rounds holds of the other's. Assumes nothing.
+-- Two graphs with the same edges, ends and weights: what holds of one's cycles and rounds holds of the other's.
 use Prim.Native.Nat.{ℕ}
 use mathlib.Core.Path.{_≡_, refl, ap}
 use mathlib.Core.List.{List, [], _∷_, map, List·Memᴰ·head as here, List·Memᴰ·tail as there}
 use native.Mathlib.Omega.{arith}
-use Rattle.rounds.specs.Lists.{_∈_, sum}
-use Rattle.rounds.specs.Graph.{Graph, Walk, stop, step}
+use Rattle.numbers.specs.Lists.{_∈_, sum}
+use Rattle.specification.specs.Periods.{Graph, Walk, stop, step}
 use Rattle.rounds.specs.Walks.{edges-of, PositiveCycle}
 use Rattle.rounds.specs.Rounds.{IsRound, Rows}
 

@@ -1,9 +1,9 @@
--- A component as slices of numbers, and its graph. Assumes nothing.
+-- A component as lists of numbers, and its graph.
 use Prim.Native.Nat.{ℕ, _+_, _*_, _/_, _≤_, _<_}
 use mathlib.Core.List.{List}
 use lib.ListN.{length, getD}
-use Rattle.rounds.specs.Lists.{_∈_}
-use Rattle.rounds.specs.Graph.{Graph}
+use Rattle.numbers.specs.Lists.{_∈_}
+use Rattle.specification.specs.Periods.{Graph}
 use Rattle.rounds.specs.Walks.{Among}
 
 -- ports: the numbers of the ports. limits: for each port number the two parts of its rate limit.
@@ -23,8 +23,8 @@ graphOf ports limits edges = record {
 }
 
 -- the most of E or D of an edge: 10,000,000 ticks; 1,000 events times a weight of 10,000
-abbrev pub mostPart : ℕ
-mostPart = 10_000_000
+abbrev pub mostAmount : ℕ
+mostAmount = 10_000_000
 
 -- the most of a and b: 64 edges' parts
 abbrev pub mostRate : ℕ
@@ -32,24 +32,23 @@ mostRate = 640_000_000
 
 -- no part of an edge is large
 pub record SmallEdges (g : Graph) : Type 0 where
-  pub ticks-forward : (k : ℕ) → g .IsEdge k → g .E⁺ k ≤ mostPart
-  pub ticks-back : (k : ℕ) → g .IsEdge k → g .E⁻ k ≤ mostPart
-  pub events-forward : (k : ℕ) → g .IsEdge k → g .D⁺ k ≤ mostPart
-  pub events-back : (k : ℕ) → g .IsEdge k → g .D⁻ k ≤ mostPart
+  pub ticks-forward : (k : ℕ) → g .IsEdge k → g .E⁺ k ≤ mostAmount
+  pub ticks-back : (k : ℕ) → g .IsEdge k → g .E⁻ k ≤ mostAmount
+  pub events-forward : (k : ℕ) → g .IsEdge k → g .D⁺ k ≤ mostAmount
+  pub events-back : (k : ℕ) → g .IsEdge k → g .D⁻ k ≤ mostAmount
 
 -- every port has a rate limit above zero, with small parts
 pub record SmallLimits (g : Graph) : Type 0 where
   pub num-some : (p : ℕ) → g .IsPort p → 0 < g .limitNum p
-  pub num-most : (p : ℕ) → g .IsPort p → g .limitNum p ≤ mostPart
+  pub num-most : (p : ℕ) → g .IsPort p → g .limitNum p ≤ mostAmount
   pub den-some : (p : ℕ) → g .IsPort p → 0 < g .limitDen p
-  pub den-most : (p : ℕ) → g .IsPort p → g .limitDen p ≤ mostPart
+  pub den-most : (p : ℕ) → g .IsPort p → g .limitDen p ≤ mostAmount
 
--- what the slices of a component satisfy: up to 64 ports, their numbers below 64, and the edges between them
+-- what the lists of a component satisfy: up to 64 ports, their numbers below 64, and the edges between them
 pub record Component (ports limits edges : List ℕ) : Type 0 where
   pub some-port : 0 < length ports
   pub few-ports : length ports ≤ 64
   pub low-ports : (p : ℕ) → p ∈ ports → p < 64
-  pub all-limits : 128 ≤ length limits
   pub among : Among (graphOf ports limits edges) ports
   pub small-edges : SmallEdges (graphOf ports limits edges)
   pub small-limits : SmallLimits (graphOf ports limits edges)

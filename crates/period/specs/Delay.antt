@@ -1,8 +1,8 @@
--- A delay in ticks and events at a period. Assumes nothing.
+-- A delay in ticks and events at a period.
 use Prim.Native.Nat.{ℕ, _+_, _*_, _≤_}
-use Rattle.table.specs.declared.Ticks.{Ticks}
-use Rattle.table.specs.declared.Events.{Events}
-use Rattle.period.specs.Component.{mostPart, mostRate}
+use Rattle.specification.specs.declared.Ticks.{Ticks}
+use Rattle.specification.specs.declared.Events.{Events}
+use Rattle.period.specs.Component.{mostAmount, mostRate}
 
 -- the delay at the period a/b, in ticks over b: one event is a/b ticks
 abbrev pub delayAt : Ticks → Events → (a b : ℕ) → Ticks
@@ -10,9 +10,9 @@ delayAt ticks events a b = (ticks .0 * b + events .0 * a, ticks .1 * b + events 
 
 -- no part is large
 pub record SmallDelay (ticks : Ticks) (events : Events) (a b : ℕ) : Type 0 where
-  pub ticks-forward : ticks .0 ≤ mostPart
-  pub ticks-back : ticks .1 ≤ mostPart
-  pub events-forward : events .0 ≤ mostPart
-  pub events-back : events .1 ≤ mostPart
+  pub ticks-forward : ticks .0 ≤ mostAmount
+  pub ticks-back : ticks .1 ≤ mostAmount
+  pub events-forward : events .0 ≤ mostAmount
+  pub events-back : events .1 ≤ mostAmount
   pub small-a : a ≤ mostRate
   pub small-b : b ≤ mostRate

@@ -1,19 +1,18 @@
--- The greatest rate limit of a component's ports. Assumes nothing.
+-- The greatest rate limit of a component's ports.
 use Prim.Native.Nat.{ℕ, _*_, _≤_, _<_}
 use mathlib.Core.Path.{_≡_}
 use mathlib.Core.List.{List, []}
 use lib.ListN.{length, getD}
-use Rattle.fraction.specs.Gcd.{Coprime}
-use Rattle.rounds.specs.Lists.{_∈_}
-use Rattle.period.specs.Periods.{RateLimit}
-use Rattle.period.specs.Component.{graphOf, SmallLimits, mostPart}
+use Rattle.numbers.specs.Divisors.{Coprime}
+use Rattle.numbers.specs.Lists.{_∈_}
+use Rattle.specification.specs.Periods.{RateLimit}
+use Rattle.period.specs.Component.{graphOf, SmallLimits, mostAmount}
 use Rattle.period.specs.declared.limit.Limit.{Limit}
 
 -- what is asked: a port at least, numbers below 64, and a rate limit for each
 pub record Limited (ports limits : List ℕ) : Type 0 where
   pub some-port : 0 < length ports
   pub low-ports : (p : ℕ) → p ∈ ports → p < 64
-  pub all-limits : 128 ≤ length limits
   pub small : SmallLimits (graphOf ports limits [])
 
 -- the port stands in the list behind ports with smaller rate limits only
@@ -33,5 +32,5 @@ pub record GreatestLimit (ports limits : List ℕ) (r : Limit) : Type 0 where
   pub above-zero : 0 < r .period .num
   pub over : 0 < r .period .den
   pub lowest : Coprime (r .period .num) (r .period .den)
-  pub small-num : r .period .num ≤ mostPart
-  pub small-den : r .period .den ≤ mostPart
+  pub small-num : r .period .num ≤ mostAmount
+  pub small-den : r .period .den ≤ mostAmount

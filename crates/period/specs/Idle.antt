@@ -1,13 +1,12 @@
--- A component without edges: its period is the greatest of its rate limits, and its ports start at 0. Assumes nothing.
+-- A component without edges: its period is the greatest of its rate limits, and its ports start at 0.
 use Prim.Native.Nat.{ℕ, _/_, _<_}
 use mathlib.Core.Path.{_≡_, refl}
 use mathlib.Core.Logic.{inl}
 use mathlib.Core.List.{List}
 use native.Mathlib.Omega.{arith}
 use lib.ListN.{length}
-use Rattle.rounds.specs.Lists.{_∈_, sum}
-use Rattle.rounds.specs.Graph.{Graph, Walk, stop, step, gain, loss, LeastStarts}
-use Rattle.period.specs.Periods.{Period}
+use Rattle.numbers.specs.Lists.{_∈_, sum}
+use Rattle.specification.specs.Periods.{Graph, Walk, stop, step, gain, loss, LeastStarts, Period}
 use Rattle.period.specs.Component.{graphOf, Component}
 use Rattle.period.specs.Greatest.{Limited, GreatestLimit}
 use Rattle.period.specs.Search.{SmallPeriod}
@@ -18,7 +17,6 @@ pub limited : {ports limits edges : List ℕ} → Component ports limits edges �
 limited k = record {
   some-port = k .some-port;
   low-ports = k .low-ports;
-  all-limits = k .all-limits;
   small = record {
     num-some = k .small-limits .num-some;
     num-most = k .small-limits .num-most;

@@ -1,8 +1,8 @@
 -- Periods of a component: the limits, the search, and what it ends with.
-pub mod Taken
-pub mod Periods
 pub mod Limits
 pub mod Component
+pub mod Edges
+pub mod EdgesLaws
 pub mod Delay
 pub mod Prices
 pub mod Alike

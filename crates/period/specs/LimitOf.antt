@@ -1,14 +1,19 @@
--- The rate limit of one port, among those of all ports. Assumes nothing.
-use Prim.Native.Nat.{ℕ, _+_, _*_, _<_}
+-- The rate limit of one port, among those of all ports.
+use Prim.Native.Nat.{ℕ, _+_, _*_, _≤_, _<_}
 use mathlib.Core.List.{List}
 use lib.ListN.{length, getD}
 use Rattle.fraction.specs.declared.Fraction.{Fraction}
 use Rattle.fraction.specs.Lowest.{lowestTerms}
+use Rattle.specification.specs.declared.Port.{Port}
+use Rattle.specification.specs.Table.{noPort}
+use Rattle.period.specs.Component.{mostAmount}
 
--- both parts of the port's rate limit are there, and the second is above zero
-pub record HasLimit (limits : List ℕ) (port : ℕ) : Type 0 where
-  pub room : 2 * port + 1 < length limits
-  pub over : 0 < getD limits (2 * port + 1) 0
+-- what reading a port's rate limit asks: rate times weight is above zero and small
+pub record HasLimit (ports : List Port) (weights : List ℕ) (port : ℕ) : Type 0 where
+  pub a-port : port < length ports
+  pub low : port < 64
+  pub over : 0 < getD ports port noPort .num * getD weights port 0
+  pub small : getD ports port noPort .num * getD weights port 0 ≤ mostAmount
 
 -- the port's rate limit in lowest terms
 abbrev pub limitOf : (limits : List ℕ) (port : ℕ) → Fraction

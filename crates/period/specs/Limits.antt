@@ -1,13 +1,13 @@
--- Limits: what a cycle tells of every a/b that serves, and the least one. Assumes nothing.
+-- Limits: what a cycle tells of every a/b that serves, and the least one.
 use Prim.Native.Nat.{ℕ, suc, _+_, _*_, _-_, _≤_, _<_, zero-le, suc-le-suc}
 use mathlib.Core.Path.{_≡_, ap}
 use mathlib.Core.Logic.{⊎-elim}
 use mathlib.Core.List.{List}
 use native.Mathlib.Omega.{arith}
 use native.Mathlib.Nat.{mul-le-mul, mul-le-mul-left, mul-le-mul-right, mul-sub, le-of-mul-le-mul-right, lt-of-mul-lt-mul-right, mul-lt-mul-of-pos-right, eq-of-mul-eq-mul-right}
-use Rattle.rounds.specs.Lists.{sum, sum-linear}
-use Rattle.rounds.specs.Graph.{Graph, gain, loss, Meets, Cycle}
-use Rattle.period.specs.Periods.{Serves, RateLimit, CycleLimit, Blocks, Period}
+use Rattle.numbers.specs.Lists.{sum}
+use Rattle.numbers.specs.ListLaws.{sum-linear}
+use Rattle.specification.specs.Periods.{Graph, gain, loss, Meets, Cycle, Serves, RateLimit, CycleLimit, Blocks, Period}
 use Rattle.rounds.specs.Walks.{meets-cycles}
 
 -- the greater times the greater

@@ -1,4 +1,4 @@
--- The edges of a component at one a/b, as the list that the rounds run over. Assumes nothing.
+-- The edges of a component at one a/b, as the list that the rounds run over.
 use Prim.Native.Nat.{ℕ, zero, suc, _+_, _*_, _/_, _≤_}
 use mathlib.Core.Path.{_≡_}
 use mathlib.Core.List.{List, [], _∷_, _++_}
@@ -27,8 +27,7 @@ pub record Pricing (edges : List ℕ) (a b : ℕ) (costs : List ℕ) : Type 0 wh
   pub small-a : a ≤ mostRate
   pub small-b : b ≤ mostRate
 
--- the prices stand at the front of the buffer, r numbers in all
-pub record PricesMade (edges : List ℕ) (a b : ℕ) (costs costs′ : List ℕ) (r : ℕ) : Type 0 where
-  pub size : r ≡ 4 * (length edges / 6)
-  pub made : take r costs′ ≡ pricesOf edges a b
+-- the prices stand at the front of the buffer
+pub record PricesMade (edges : List ℕ) (a b : ℕ) (costs costs′ : List ℕ) : Type 0 where
+  pub made : take (4 * (length edges / 6)) costs′ ≡ pricesOf edges a b
   pub same-length : length costs′ ≡ length costs

@@ -1,4 +1,4 @@
--- Laws of prices: they are the edges of the component at a/b, they are small, and what holds of their graph holds of the component's. Assumes nothing.
+-- Laws of prices: they are the edges of the component at a/b, they are small, and what holds of their graph holds of the component's.
 use Prim.Native.Nat.{ℕ, zero, suc, _+_, _*_, _/_, _≤_, _<_}
 use mathlib.Core.Path.{_≡_, refl, ap, _∙_}
 use mathlib.Core.Logic.{⊎-elim}
@@ -7,11 +7,12 @@ use native.Mathlib.Omega.{arith}
 use native.Mathlib.Nat.{mul-le-mul}
 use lib.ListN.{length, getD, length-append, List·getD-append}
 use lib.Seq.{getD-append-add}
-use Rattle.rounds.specs.Lists.{_∈_, lt-or-le}
-use Rattle.rounds.specs.Graph.{Graph, gain, loss, Cycle, LeastStarts}
+use Rattle.numbers.specs.Lists.{_∈_}
+use Rattle.numbers.specs.ListLaws.{lt-or-le}
+use Rattle.specification.specs.Periods.{Graph, gain, loss, Cycle, LeastStarts}
 use Rattle.rounds.specs.Walks.{edges-of, PositiveCycle}
 use Rattle.rounds.specs.Rounds.{settled}
-use Rattle.period.specs.Component.{graphOf, Component, mostPart, mostRate}
+use Rattle.period.specs.Component.{graphOf, Component, mostAmount, mostRate}
 use Rattle.rounds.specs.Costs.{count, gainOf, lossOf, Priced, priced}
 use Rattle.rounds.specs.Starts.{starts, startOf}
 use Rattle.rounds.specs.StartsLaws.{starts-rows}
@@ -23,7 +24,7 @@ use Rattle.period.specs.Alike.{SameEdge, Alike, alike-cycle, alike-rows}
 abbrev pub mostProduct : ℕ
 mostProduct = 6_400_000_000_000_000
 
-pub product-most : {x y : ℕ} → x ≤ mostPart → y ≤ mostRate → x * y ≤ mostProduct
+pub product-most : {x y : ℕ} → x ≤ mostAmount → y ≤ mostRate → x * y ≤ mostProduct
 product-most h k = omega (arith, mul-le-mul h k)
 
 module _ (edges : List ℕ) (a b : ℕ) where

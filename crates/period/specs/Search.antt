@@ -1,17 +1,16 @@
--- What the search for the least period of a component ends with. Assumes nothing.
-use Prim.Native.Nat.{ℕ, suc, _+_, _*_, _/_, _≤_, _<_}
+-- What the search for the least period of a component ends with.
+use Prim.Native.Nat.{ℕ, suc, _*_, _-_, _≤_, _<_}
 use mathlib.Core.Path.{_≡_}
 use mathlib.Core.Logic.{_≢_}
 use mathlib.Core.Bool.{true, false}
 use mathlib.Core.List.{List}
 use lib.ListN.{length, getD}
-use Rattle.fraction.specs.Gcd.{Coprime}
-use Rattle.rounds.specs.Graph.{Graph, LeastStarts}
-use Rattle.period.specs.Periods.{Serves, RateLimit, CycleLimit, Blocks, Period}
+use Rattle.numbers.specs.Divisors.{Coprime}
+use Rattle.specification.specs.Periods.{Graph, LeastStarts, Serves, RateLimit, CycleLimit, Blocks, Period}
 use Rattle.period.specs.Component.{graphOf, mostRate}
 use Rattle.period.specs.Prices.{pricesOf}
 use Rattle.rounds.specs.Costs.{mostCost}
-use Rattle.rounds.specs.Starts.{starts}
+use Rattle.rounds.specs.Starts.{starts, row}
 use Rattle.rounds.specs.Back.{edgesOf}
 use Rattle.period.specs.declared.search.Cycle.{Cycle}
 use Rattle.period.specs.declared.search.Floor.{Floor}
@@ -42,12 +41,6 @@ pub record RoundsRun (cs starts′ : List ℕ) (n rounds : ℕ) : Type 0 where
   pub still : starts cs (suc changing) ≡ starts cs changing
   pub made : starts′ ≡ starts cs changing
 
--- room for a row of 64 starts for the zeros and each round, for the prices of the edges, and for 64 starts
-pub record Room (ports edges rows costs starts : List ℕ) : Type 0 where
-  pub rows-room : 64 * length ports + 64 ≤ length rows
-  pub costs-room : 4 * (length edges / 6) ≤ length costs
-  pub starts-room : length starts ≡ 64
-
 -- neither part of a/b is large
 pub record SmallPeriod (a b : ℕ) : Type 0 where
   pub num : a ≤ mostRate
@@ -68,8 +61,8 @@ module _ (ports limits edges : List ℕ) where
     pub small : SmallPeriod (r .period .num) (r .period .den)
     pub small-starts : (p : ℕ) → getD starts′ p 0 ≤ mostStart
 
-  -- blocked: a floor that no smaller a/b serves, and a cycle that is positive there and above; the starts are unchanged
-  pub record FoundBlock (r : Search) (starts₀ starts′ : List ℕ) : Type 0 where
+  -- blocked: a floor that no smaller a/b serves, and a cycle that is positive there and above
+  pub record FoundBlock (r : Search) : Type 0 where
     pub above-zero : 0 < r .period .num
     pub over : 0 < r .period .den
     pub lowest : Coprime (r .period .num) (r .period .den)
@@ -80,8 +73,8 @@ module _ (ports limits edges : List ℕ) where
     pub limit-within : WithinSteps (r .limit)
     pub block-within : WithinSteps (r .block)
     pub rounds : r .rounds ≡ length ports
-    pub unchanged : starts′ ≡ starts₀
 
-  pub record Ends (r : Search) (starts₀ starts′ : List ℕ) : Type 0 where
-    pub settled : r .settled ≡ true → FoundPeriod r starts′
-    pub blocked : r .settled ≡ false → FoundBlock r starts₀ starts′
+  -- the starts of a period are the row that the last round left as it was
+  pub record SearchResult (r : Search) (work′ : List ℕ) : Type 0 where
+    pub settled : r .settled ≡ true → FoundPeriod r (row work′ (r .rounds - 1))
+    pub blocked : r .settled ≡ false → FoundBlock r

@@ -1,15 +1,15 @@
--- A search ends settled exactly when some a/b serves, and then with the least. Assumes nothing.
+-- A search ends settled exactly when some a/b serves, and then with the least.
 use Prim.Native.Nat.{ℕ, _*_, _≤_, _<_}
 use mathlib.Core.Path.{_≡_}
 use mathlib.Core.Bool.{true, false}
 use mathlib.Core.List.{List}
-use Rattle.period.specs.Periods.{Serves}
+use Rattle.specification.specs.Periods.{Serves}
 use Rattle.period.specs.Limits.{blocked, period-least}
 use Rattle.period.specs.Component.{graphOf, Component}
-use Rattle.period.specs.Search.{Ends}
+use Rattle.period.specs.Search.{SearchResult}
 use Rattle.period.specs.declared.search.Search.{Search}
 
-module _ {ports limits edges starts₀ starts′ : List ℕ} {r : Search} (e : Ends ports limits edges r starts₀ starts′) where
+module _ {ports limits edges work′ : List ℕ} {r : Search} (e : SearchResult ports limits edges r work′) where
   pub settled-serves : r .settled ≡ true → Serves (graphOf ports limits edges) (r .period .num) (r .period .den)
   settled-serves h = e .settled h .period .serves
 

@@ -1,9 +1,9 @@
--- E and D of a run of edges. Assumes nothing.
+-- E and D of a run of edges.
 use Prim.Native.Nat.{ℕ, _≤_}
 use mathlib.Core.Path.{_≡_}
 use mathlib.Core.List.{List, []}
 use lib.ListN.{length}
-use Rattle.rounds.specs.Lists.{_∈_, sum}
+use Rattle.numbers.specs.Lists.{_∈_, sum}
 use Rattle.period.specs.Component.{graphOf, SmallEdges}
 use Rattle.period.specs.declared.cycle.Sums.{Sums}
 

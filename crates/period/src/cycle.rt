@@ -1,16 +1,20 @@
 // E and D of the edges of a cycle.
+ghost use Rattle.table.specs.Slices.{linksOf};
+ghost use Rattle.period.specs.Edges.{edgesOf, Readable};
 ghost use Rattle.period.specs.Sums.{Summing, SumsOf};
-use table::Events;
-use table::Ticks;
+use crate::edge;
+use specification::Events;
+use specification::Ticks;
 
 pub struct Sums {
     pub ticks: Ticks,
     pub events: Events,
 }
 
-pub fn sums_of(edges: &[u64], path: &[u64]) -> Sums
-    requires { ⌜ Summing (now edges) (now path) ⌝ }
-    ensures { λ r. ⌜ SumsOf (now (edges .entry)) (now (path .entry)) r ⌝ }
+pub fn sums_of(links: &[u32], weights: &[u64; 64], numbers: &[u64], path: &[u64]) -> Sums
+    requires { ⌜ Readable (linksOf (now links)) (now numbers) ⌝ }
+    requires { ⌜ Summing (edgesOf (linksOf (now links)) (now weights) (now numbers)) (now path) ⌝ }
+    ensures { λ r. ⌜ SumsOf (edgesOf (linksOf (now (links .entry))) (now (weights .entry)) (now (numbers .entry))) (now (path .entry)) r ⌝ }
 {
     let mut ticks_forward: u64 = 0;
     let mut ticks_back: u64 = 0;
@@ -18,11 +22,13 @@ pub fn sums_of(edges: &[u64], path: &[u64]) -> Sums
     let mut events_back: u64 = 0;
     let mut i: usize = 0;
     while i < path.len() {
-        let at = 6 * path[i] as usize;
-        ticks_forward = ticks_forward + edges[at + 2];
-        ticks_back = ticks_back + edges[at + 3];
-        events_forward = events_forward + edges[at + 4];
-        events_back = events_back + edges[at + 5];
+        let e = edge::at(links, weights, numbers, path[i] as usize);
+        let ticks = e.ticks;
+        let events = e.events;
+        ticks_forward = ticks_forward + ticks.0;
+        ticks_back = ticks_back + ticks.1;
+        events_forward = events_forward + events.0;
+        events_back = events_back + events.1;
         i = i + 1;
     }
     Sums {

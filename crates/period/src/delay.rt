@@ -2,8 +2,8 @@
 ghost use mathlib.Core.Path.{_≡_};
 ghost use Rattle.period.specs.Delay.{delayAt, SmallDelay};
 use fraction::Fraction;
-use table::Events;
-use table::Ticks;
+use specification::Events;
+use specification::Ticks;
 
 // The ticks are over the period's denominator.
 pub fn delay(ticks: Ticks, events: Events, period: Fraction) -> Ticks

@@ -1,12 +1,15 @@
 // The least period of a component, or a floor and a cycle that blocks every period.
 ghost use mathlib.Core.Path.{_≡_};
+ghost use Prim.Native.Nat.{_+_, _*_, _≤_};
 ghost use lib.ListN.{length};
+ghost use Rattle.table.specs.Slices.{portsOf, linksOf};
 ghost use Rattle.period.specs.Component.{Component};
+ghost use Rattle.period.specs.Edges.{limitsOf, edgesOf, Readable};
 ghost use Rattle.period.specs.Greatest.{GreatestLimit};
 ghost use Rattle.period.specs.Prices.{pricesOf};
-ghost use Rattle.period.specs.Search.{cycleOf, WithinSteps, Room, Ends};
+ghost use Rattle.period.specs.Search.{cycleOf, WithinSteps, SearchResult};
 ghost use Rattle.period.specs.Sums.{Summing, SumsOf};
-ghost use Rattle.period.specs.Try.{Trying, Tries, SameLengths};
+ghost use Rattle.period.specs.Try.{Trying, TryResult, SameLengths};
 use crate::cycle;
 use crate::cycle::Sums;
 use crate::limit::Limit;
@@ -15,7 +18,7 @@ use fraction::Fraction;
 use rounds::back;
 use rounds::back::Part;
 use rounds::starts;
-use rounds::starts::Outcome;
+use rounds::starts::RoundsEnd;
 
 // The edges of a cycle: a part of the steps.
 pub struct Cycle {
@@ -48,59 +51,67 @@ enum Tried {
     Gaining(Part),
 }
 
+// The rows of starts come first in work, and behind row n the costs.
 fn try_at(
-    edges: &[u64],
+    links: &[u32],
+    weights: &[u64; 64],
+    numbers: &[u64],
     period: Fraction,
     n: usize,
-    rows: &mut [u64],
-    costs: &mut [u64],
+    work: &mut [u64],
     steps: &mut [u64],
 ) -> Tried
-    requires { ⌜ Trying (now edges) (period .num) (period .den) n (now rows) (now costs) (now steps) ⌝ }
-    ensures { λ r. ⌜ Tries (pricesOf (now (edges .entry)) (period .num) (period .den)) n (now (rows .exit)) (now (steps .exit)) r ⌝ }
-    ensures { λ _. ⌜ SameLengths (now (rows .entry)) (now (rows .exit)) (now (costs .entry)) (now (costs .exit)) (now (steps .entry)) (now (steps .exit)) ⌝ }
+    requires { ⌜ Readable (linksOf (now links)) (now numbers) ⌝ }
+    requires { ⌜ Trying (edgesOf (linksOf (now links)) (now weights) (now numbers)) (length (now numbers)) (period .num) (period .den) n (now work) (now steps) ⌝ }
+    ensures { λ r. ⌜ TryResult (pricesOf (edgesOf (linksOf (now (links .entry))) (now (weights .entry)) (now (numbers .entry))) (period .num) (period .den)) n (now (work .exit)) (now (steps .exit)) r ⌝ }
+    ensures { λ _. ⌜ SameLengths (now (work .entry)) (now (work .exit)) (now (steps .entry)) (now (steps .exit)) ⌝ }
 {
-    let size = price::price(edges, period, costs);
-    match starts::settle(rows, n, &costs[..size]) {
-        Outcome::Settled(r) => Tried::Settled(r),
-        Outcome::Unsettled(port) => {
-            Tried::Gaining(back::cycle_back(rows, n, &costs[..size], port, steps))
+    let base = 64 * n + 64;
+    let count = numbers.len();
+    price::price(links, weights, numbers, period, &mut work[base..]);
+    match starts::settle(work, n, count) {
+        RoundsEnd::Settled(r) => Tried::Settled(r),
+        RoundsEnd::Unsettled(port) => {
+            let end = base + 4 * count;
+            // The rows and the costs are read together, so both are parts of one shared slice.
+            let rows = &work[..];
+            Tried::Gaining(back::cycle_back(rows, n, &rows[base..end], port, steps))
         }
     }
 }
 
 // E and D of the edges of a cycle.
-fn cycle_sums(edges: &[u64], c: Cycle) -> Sums
-    requires { ⌜ Summing (now edges) (cycleOf c) ⌝ }
+fn cycle_sums(links: &[u32], weights: &[u64; 64], numbers: &[u64], c: Cycle) -> Sums
+    requires { ⌜ Readable (linksOf (now links)) (now numbers) ⌝ }
+    requires { ⌜ Summing (edgesOf (linksOf (now links)) (now weights) (now numbers)) (cycleOf c) ⌝ }
     requires { ⌜ WithinSteps c ⌝ }
-    ensures { λ r. ⌜ SumsOf (now (edges .entry)) (cycleOf c) r ⌝ }
+    ensures { λ r. ⌜ SumsOf (edgesOf (linksOf (now (links .entry))) (now (weights .entry)) (now (numbers .entry))) (cycleOf c) r ⌝ }
 {
     let steps = c.steps;
     let part = c.part;
     let first = part.first;
     let last = part.last;
-    cycle::sums_of(edges, &steps[first..last])
+    cycle::sums_of(links, weights, numbers, &steps[first..last])
 }
 
-// The search begins at the greatest of the ports' rate limits.
+// The search begins at the greatest of the ports' rate limits. Where it settles, the starts are row `rounds` - 1 of work.
 pub fn least_period(
-    ports: &[u64],
-    limits: &[u64],
-    edges: &[u64],
+    ports: &[u32],
+    links: &[u32],
+    weights: &[u64; 64],
+    members: &[u64],
+    numbers: &[u64],
     greatest: Limit,
-    rows: &mut [u64],
-    costs: &mut [u64],
-    starts: &mut [u64],
+    work: &mut [u64],
 ) -> Search
-    requires { ⌜ Component (now ports) (now limits) (now edges) ⌝ }
-    requires { ⌜ Room (now ports) (now edges) (now rows) (now costs) (now starts) ⌝ }
-    requires { ⌜ GreatestLimit (now ports) (now limits) greatest ⌝ }
-    ensures { λ r. ⌜ Ends (now (ports .entry)) (now (limits .entry)) (now (edges .entry)) r (now (starts .entry)) (now (starts .exit)) ⌝ }
-    ensures { λ _. ⌜ length (now (rows .exit)) ≡ length (now (rows .entry)) ⌝ }
-    ensures { λ _. ⌜ length (now (costs .exit)) ≡ length (now (costs .entry)) ⌝ }
-    ensures { λ _. ⌜ length (now (starts .exit)) ≡ length (now (starts .entry)) ⌝ }
+    requires { ⌜ Readable (linksOf (now links)) (now numbers) ⌝ }
+    requires { ⌜ Component (now members) (limitsOf (portsOf (now ports)) (now weights)) (edgesOf (linksOf (now links)) (now weights) (now numbers)) ⌝ }
+    requires { ⌜ 64 * length (now members) + 64 + 4 * length (now numbers) ≤ length (now work) ⌝ }
+    requires { ⌜ GreatestLimit (now members) (limitsOf (portsOf (now ports)) (now weights)) greatest ⌝ }
+    ensures { λ r. ⌜ SearchResult (now (members .entry)) (limitsOf (portsOf (now (ports .entry))) (now (weights .entry))) (edgesOf (linksOf (now (links .entry))) (now (weights .entry)) (now (numbers .entry))) r (now (work .exit)) ⌝ }
+    ensures { λ _. ⌜ length (now (work .exit)) ≡ length (now (work .entry)) ⌝ }
 {
-    let n = ports.len();
+    let n = members.len();
     let none = Cycle {
         steps: [0u64; 64],
         part: Part { first: 0, last: 0 },
@@ -110,9 +121,8 @@ pub fn least_period(
     let mut limit = none;
     loop {
         let mut steps = [0u64; 64];
-        match try_at(edges, period, n, rows, costs, &mut steps) {
+        match try_at(links, weights, numbers, period, n, work, &mut steps) {
             Tried::Settled(r) => {
-                starts::row_into(rows, r, starts);
                 return Search {
                     settled: true,
                     period,
@@ -124,7 +134,7 @@ pub fn least_period(
             }
             Tried::Gaining(part) => {
                 let found = Cycle { steps, part };
-                let sums = cycle_sums(edges, found);
+                let sums = cycle_sums(links, weights, numbers, found);
                 if sums.events.1 <= sums.events.0 {
                     return Search {
                         settled: false,

@@ -1,6 +1,4 @@
--- Numbers as bytes, and the records of an answer.
-pub mod Bytes
+-- Laws of numbers as bytes, and of what is written to a buffer.
 pub mod Lengths
-pub mod Answer
 pub mod WrittenLaws
 pub mod NumberLaws

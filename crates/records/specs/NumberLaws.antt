@@ -1,4 +1,4 @@
--- Numbers are read back from the bytes that they were written as. Assumes nothing.
+-- Numbers are read back from the bytes that they were written as.
 use Prim.Native.Nat.{ℕ, zero, suc, _+_, _/_, _%_, _^_, _<_}
 use mathlib.Core.Path.{_≡_, refl}
 use mathlib.Core.List.{List, [], _∷_, _++_}
@@ -6,8 +6,7 @@ use native.Mathlib.Nat.{add-assoc, pow-suc}
 use native.Mathlib.Omega.{arith}
 use lib.ListN.{length}
 use lib.Seq.{getD-append-add}
-use Rattle.records.specs.Answer.{encode}
-use Rattle.records.specs.Bytes.{numberAt, bytes}
+use Rattle.specification.specs.Bytes.{encode, numberAt, bytes}
 
 -- what stands in front of the bytes only moves the place
 pub number-behind : (pre s : List ℕ) (at n : ℕ) → numberAt (pre ++ s) (length pre + at) n ≡ numberAt s at n

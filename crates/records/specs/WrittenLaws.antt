@@ -1,11 +1,11 @@
--- Laws of what is written to the front of a buffer, and of stores right behind one another. Assumes nothing.
+-- Laws of what is written to the front of a buffer, and of stores right behind one another.
 use Prim.Native.Nat.{ℕ, suc, _+_, _-_, _≤_}
 use mathlib.Core.Path.{_≡_, sym, ap, _∙_}
 use mathlib.Core.List.{List, [], _∷_, _++_, append-assoc, append-nil}
 use native.Mathlib.Omega.{arith}
 use lib.ListN.{length, take, drop, length-append, length-drop, drop-of-length-le}
 use lib.Seq.{sets, take-all, take-at, drop-at, drop-drop}
-use Rattle.records.specs.Answer.{Written}
+use Rattle.specification.specs.Bytes.{Written}
 
 -- two stores, the second right behind the first, are one of both lists
 pub sets-append : (l : List ℕ) (at : ℕ) (xs ys : List ℕ) → sets (sets l at xs) (at + length xs) ys ≡ sets l at (xs ++ ys)

@@ -1,2 +1,3 @@
-// Records as bytes: writing the records of an answer.
+// Numbers as bytes: reading them, and writing the records of an answer.
+pub mod read;
 pub mod write;

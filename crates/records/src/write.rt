@@ -3,19 +3,10 @@ ghost use mathlib.Core.Path.{_≡_};
 ghost use Prim.Native.Nat.{_+_, _*_, _≤_};
 ghost use lib.ListN.{length};
 ghost use lib.Seq.{sets};
-ghost use Rattle.records.specs.Bytes.{bytes, words};
-ghost use Rattle.records.specs.Answer.{
-  Written,
-  encode,
-  portAnswer,
-  bufferAnswer,
-  loopAnswer,
-  cycleAnswer,
-  floorAnswer,
-};
+ghost use Rattle.specification.specs.Bytes.{bytes, words, Written, encode, portAnswer, bufferAnswer, loopAnswer, cycleAnswer, floorAnswer};
 
 // The n lowest bytes of v at a place, the lowest first.
-fn put(tail: &mut [u8], at: usize, n: usize, v: u64)
+fn put_number(tail: &mut [u8], at: usize, n: usize, v: u64)
     requires { ⌜ at + n ≤ length (now tail) ⌝ }
     ensures { λ _. ⌜ now (tail .exit) ≡ sets (now (tail .entry)) at (bytes n v) ⌝ }
 {
@@ -35,7 +26,7 @@ fn put_words(tail: &mut [u8], at: usize, numbers: &[u64])
 {
     let mut i: usize = 0;
     while i < numbers.len() {
-        put(tail, at + 2 * i, 2, numbers[i]);
+        put_number(tail, at + 2 * i, 2, numbers[i]);
         i = i + 1;
     }
 }
@@ -46,8 +37,8 @@ fn write_numbers(tail: &mut [u8], kind: u64, numbers: &[u64]) -> usize
     ensures { λ r. ⌜ Written (encode kind (words (now (numbers .entry)))) (now (tail .entry)) (now (tail .exit)) r ⌝ }
 {
     let length = 2 * numbers.len();
-    put(tail, 0, 2, (2 + length) as u64);
-    put(tail, 2, 2, kind);
+    put_number(tail, 0, 2, (2 + length) as u64);
+    put_number(tail, 2, 2, kind);
     put_words(tail, 4, numbers);
     4 + length
 }
@@ -56,13 +47,13 @@ pub fn write_port(tail: &mut [u8], component: u64, weight: u64, a: u64, b: u64, 
     requires { ⌜ 24 ≤ length (now tail) ⌝ }
     ensures { λ r. ⌜ Written (portAnswer component weight a b start) (now (tail .entry)) (now (tail .exit)) r ⌝ }
 {
-    put(tail, 0, 2, 22);
-    put(tail, 2, 2, 16);
-    put(tail, 4, 2, component);
-    put(tail, 6, 2, weight);
-    put(tail, 8, 4, a);
-    put(tail, 12, 4, b);
-    put(tail, 16, 8, start);
+    put_number(tail, 0, 2, 22);
+    put_number(tail, 2, 2, 16);
+    put_number(tail, 4, 2, component);
+    put_number(tail, 6, 2, weight);
+    put_number(tail, 8, 4, a);
+    put_number(tail, 12, 4, b);
+    put_number(tail, 16, 8, start);
     24
 }
 
@@ -70,10 +61,10 @@ pub fn write_buffer(tail: &mut [u8], number: u64, size: u64) -> usize
     requires { ⌜ 14 ≤ length (now tail) ⌝ }
     ensures { λ r. ⌜ Written (bufferAnswer number size) (now (tail .entry)) (now (tail .exit)) r ⌝ }
 {
-    put(tail, 0, 2, 12);
-    put(tail, 2, 2, 17);
-    put(tail, 4, 2, number);
-    put(tail, 6, 8, size);
+    put_number(tail, 0, 2, 12);
+    put_number(tail, 2, 2, 17);
+    put_number(tail, 4, 2, number);
+    put_number(tail, 6, 8, size);
     14
 }
 
@@ -96,8 +87,8 @@ pub fn write_floor(tail: &mut [u8], port: u64) -> usize
     requires { ⌜ 6 ≤ length (now tail) ⌝ }
     ensures { λ r. ⌜ Written (floorAnswer port) (now (tail .entry)) (now (tail .exit)) r ⌝ }
 {
-    put(tail, 0, 2, 4);
-    put(tail, 2, 2, 20);
-    put(tail, 4, 2, port);
+    put_number(tail, 0, 2, 4);
+    put_number(tail, 2, 2, 20);
+    put_number(tail, 4, 2, port);
     6
 }

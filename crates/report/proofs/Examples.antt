@@ -1,30 +1,16 @@
--- Models A, F and I of document 01 print as it says. Assumes nothing.
+-- Models A, F and I of document 01 print as it says.
 use Prim.Native.Nat.{ℕ}
 use mathlib.Core.Path.{_≡_, refl}
 use mathlib.Core.Bool.{true, false}
 use mathlib.Core.List.{List, [], _∷_, _++_}
 use native.Mathlib.Omega.{arith}
 use lib.ListN.{getD}
-use Rattle.fraction.specs.Gcd.{gcd}
+use Rattle.numbers.specs.Gcd.{gcd}
 use Rattle.fraction.specs.Lowest.{lowestTerms}
-use Rattle.table.specs.Table.{Table, noPort, noLink}
-use Rattle.table.specs.declared.Link.{Link}
-use Rattle.answers.specs.Answers.{Timing, cycle, disagreeing, blocked, consistent}
-use Rattle.text.specs.Lines.{
-  decimal,
-  decimalIn,
-  fraction,
-  signWord,
-  field,
-  fractionField,
-  answerLine,
-  portText,
-  portLine,
-  bufferLine,
-  stepText,
-  connectionText,
-  itemsLine,
-}
+use Rattle.specification.specs.Table.{Table, noPort, noLink}
+use Rattle.specification.specs.declared.Link.{Link}
+use Rattle.specification.specs.Answers.{Timing, cycle, disagreeing, blocked, consistent}
+use Rattle.text.specs.Lines.{decimal, decimalIn, fraction, signWord, field, fractionField, answerLine, portText, portLine, bufferLine, stepText, connectionText, itemsLine}
 use Rattle.report.specs.AnswerText.{stepsText, connectionsText, portsText, buffersText, textOf}
 
 -- ---- A

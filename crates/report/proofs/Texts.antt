@@ -1,14 +1,14 @@
--- The text of an input, by how its reading ended and by its length. Assumes nothing.
+-- The text of an input, by how its reading ended and by its length.
 use Prim.Native.Nat.{ℕ, _≤_, _<_}
 use mathlib.Core.Path.{_≡_, refl, sym, _∙_}
 use mathlib.Core.Bool.{Bool, true, false, true≢false}
 use mathlib.Core.List.{List}
 use native.Mathlib.Omega.{arith}
 use lib.ListN.{length, take}
-use Rattle.records.specs.Answer.{Written}
-use Rattle.answers.specs.Answers.{leastRoom}
-use Rattle.graph.specs.Analysis.{Analysed}
-use Rattle.graph.specs.declared.analysis.Outcome.{Outcome}
+use Rattle.specification.specs.Bytes.{Written}
+use Rattle.specification.specs.Answers.{leastRoom}
+use Rattle.specification.specs.Analysed.{Analysed}
+use Rattle.specification.specs.declared.Outcome.{Outcome}
 use Rattle.text.specs.Printed.{printed}
 use Rattle.report.specs.AnswerTextLaws.{printed-analysed}
 use Rattle.report.specs.Report.{mostBytes, unreadLine, longLine, PrintedText, Reported}

@@ -1,34 +1,11 @@
--- The printed form of document 01, from the answer: the number, then the records' lines. Assumes nothing.
+-- The printed form of document 01, from the answer: the number, then the records' lines.
 use Prim.Native.Nat.{ℕ, zero, suc}
 use mathlib.Core.Bool.{cond}
 use mathlib.Core.List.{List, [], _∷_, _++_}
-use Rattle.table.specs.Table.{Table, portCount, linkCount, link}
-use Rattle.ways.specs.Ways.{Step}
-use Rattle.answers.specs.Answers.{
-  Timing,
-  Floor,
-  rate,
-  cycle,
-  Answer,
-  refused,
-  disagreeing,
-  overweight,
-  blocked,
-  consistent,
-  number,
-}
-use Rattle.text.specs.Lines.{
-  loopWord,
-  floorCycleWord,
-  blockWord,
-  answerLine,
-  portLine,
-  bufferLine,
-  stepText,
-  connectionText,
-  itemsLine,
-  floorPortLine,
-}
+use Rattle.specification.specs.Table.{Table, portCount, linkCount, link}
+use Rattle.specification.specs.Ratios.{Step}
+use Rattle.specification.specs.Answers.{Timing, Floor, rate, cycle, Answer, refused, disagreeing, overweight, blocked, consistent, number}
+use Rattle.text.specs.Lines.{loopWord, floorCycleWord, blockWord, answerLine, portLine, bufferLine, stepText, connectionText, itemsLine, floorPortLine}
 
 -- a sign and a number for each step of a loop; minus is against
 unfoldable pub stepsText : List Step → List ℕ

@@ -1,4 +1,4 @@
--- The printed form of an answer's bytes is the text of the answer. Assumes nothing.
+-- The printed form of an answer's bytes is the text of the answer.
 use Prim.Native.Nat.{ℕ, zero, suc, _+_, _^_, _≤_, _<_}
 use mathlib.Core.Path.{_≡_, refl}
 use mathlib.Core.Bool.{Bool, true, false, cond}
@@ -6,18 +6,16 @@ use mathlib.Core.List.{List, [], map, List·Memᴰ·head as here, List·Memᴰ·
 use native.Mathlib.Numerals.{add-one}
 use native.Mathlib.Omega.{arith}
 use lib.ListN.{length, take, length-append}
-use Rattle.records.specs.Answer.{encode, bufferAnswer, loopAnswer, cycleAnswer}
-use Rattle.records.specs.Bytes.{words}
+use Rattle.specification.specs.Bytes.{encode, bufferAnswer, loopAnswer, cycleAnswer, words}
 use Rattle.records.specs.NumberLaws.{encode-length}
 use Rattle.records.specs.WrittenLaws.{written-front}
-use Rattle.rounds.specs.Graph.{Cycle}
+use Rattle.specification.specs.Periods.{Cycle, graphIn}
 use Rattle.rounds.specs.Walks.{edges-of}
-use Rattle.table.specs.Limits.{WellFormed}
-use Rattle.table.specs.Reading.{readTable}
-use Rattle.table.specs.Table.{Table, portCount, linkCount, link}
-use Rattle.ways.specs.Model.{IsPort}
-use Rattle.ways.specs.Ways.{Step, Way, stay, walk}
-use Rattle.answers.specs.Answers.{
+use Rattle.table.specs.WellFormed.{WellFormed}
+use Rattle.specification.specs.Reading.{readTable}
+use Rattle.specification.specs.Table.{Table, portCount, linkCount, link, IsPort}
+use Rattle.specification.specs.Ratios.{Step, Way, stay, walk}
+use Rattle.specification.specs.Answers.{
   Timing,
   Floor,
   rate,
@@ -39,25 +37,15 @@ use Rattle.answers.specs.Answers.{
   leastRoom,
   AnswerOf,
 }
-use Rattle.answers.specs.AnswerCases.{AnswerCase, short, faulty, formed as right-answer, answer-case}
-use Rattle.answers.specs.Constraints.{graphIn}
-use Rattle.answers.specs.Room.{fits-room}
-use Rattle.graph.specs.declared.analysis.Outcome.{Outcome}
-use Rattle.graph.specs.Analysis.{FieldsFit, Fits, Analysed}
+use Rattle.demands.specs.AnswerCases.{AnswerCase, short, faulty, formed as right-answer, answer-case}
+use Rattle.demands.specs.Room.{fits-room}
+use Rattle.specification.specs.declared.Outcome.{Outcome}
+use Rattle.specification.specs.Analysed.{FieldsFit, Fits, Analysed}
 use Rattle.text.specs.Lines.{bufferLine}
 use Rattle.text.specs.Printed.{cycleWord, printed}
 use Rattle.text.specs.PrintedLaws.{Prints, prints-none, _⨾_, prints-all}
 use Rattle.report.specs.AnswerText.{floorText, portsText, buffersText, linesOf, textOf}
-use Rattle.report.specs.RecordText.{
-  PortFields,
-  BufferFields,
-  SmallNumbers,
-  prints-port,
-  prints-buffer,
-  prints-floor,
-  prints-loop,
-  prints-cycle,
-}
+use Rattle.report.specs.RecordText.{PortFields, BufferFields, SmallNumbers, prints-port, prints-buffer, prints-floor, prints-loop, prints-cycle}
 
 -- the records print, however many they are
 pub record PrintsAs (s : List ℕ) (place : ℕ) (lines : List ℕ) : Type 0 where

@@ -1,5 +1,5 @@
--- Each record of an answer prints as the line of its values. Assumes nothing.
-use Prim.Native.Nat.{ℕ, _+_, _-_, _*_, _/_, _^_, _<_}
+-- Each record of an answer prints as the line of its values.
+use Prim.Native.Nat.{ℕ, _+_, _-_, _/_, _^_, _<_}
 use mathlib.Core.Path.{_≡_, refl, _∙_}
 use mathlib.Core.Bool.{Bool, true, false, cond, not}
 use mathlib.Core.List.{List, [], _∷_, _++_, map, List·Memᴰ·head as here, List·Memᴰ·tail as there}
@@ -7,29 +7,15 @@ use native.Mathlib.Omega.{arith}
 use lib.Dec.{eqb}
 use lib.ListN.{length}
 use borrow.Author.Tests.{lt-ltb, le-leb}
-use Rattle.records.specs.Answer.{encode, portAnswer, bufferAnswer, loopAnswer, cycleAnswer, floorAnswer}
-use Rattle.records.specs.Bytes.{numberAt, bytes, words}
+use Rattle.specification.specs.Bytes.{encode, portAnswer, bufferAnswer, loopAnswer, cycleAnswer, floorAnswer, numberAt, bytes, words}
 use Rattle.records.specs.Lengths.{words-length}
 use Rattle.records.specs.NumberLaws.{number-bytes, number-in, length-field, kind-field, body-field}
-use Rattle.rounds.specs.Lists.{_∈_}
-use Rattle.ways.specs.Ways.{Step}
-use Rattle.answers.specs.Answers.{loopNumbers}
-use Rattle.answers.specs.Room.{loop-numbers}
+use Rattle.numbers.specs.Lists.{_∈_}
+use Rattle.specification.specs.Ratios.{Step}
+use Rattle.specification.specs.Answers.{loopNumbers}
+use Rattle.demands.specs.Room.{loop-numbers}
 use Rattle.text.specs.Lines.{loopWord, portLine, bufferLine, stepText, connectionText, itemsLine, floorPortLine}
-use Rattle.text.specs.Printed.{
-  cycleWord,
-  hasLine,
-  itemsText,
-  portAt,
-  bufferAt,
-  stepAt,
-  connectionAt,
-  loopAt,
-  cycleAt,
-  floorAt,
-  hasPeriod,
-  recordLine,
-}
+use Rattle.text.specs.Printed.{cycleWord, hasLine, itemsText, portAt, bufferAt, stepAt, connectionAt, loopAt, cycleAt, floorAt, hasPeriod, recordLine}
 use Rattle.text.specs.PrintedLaws.{steps-behind, connections-behind, Prints, prints-record}
 use Rattle.report.specs.AnswerText.{stepsText, connectionsText}
 

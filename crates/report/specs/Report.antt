@@ -1,12 +1,12 @@
--- The text that the check program prints of an input. Assumes nothing.
+-- The text that the check program prints of an input.
 use Prim.Native.Nat.{ℕ, _≤_, _<_}
 use mathlib.Core.Path.{_≡_}
 use mathlib.Core.Bool.{Bool, true, false}
 use mathlib.Core.List.{List, [], _∷_}
 use lib.ListN.{length}
-use Rattle.records.specs.Answer.{Written}
-use Rattle.table.specs.Reading.{readTable}
-use Rattle.answers.specs.Answers.{Answer, leastRoom, AnswerOf}
+use Rattle.specification.specs.Bytes.{Written}
+use Rattle.specification.specs.Reading.{readTable}
+use Rattle.specification.specs.Answers.{Answer, leastRoom, AnswerOf}
 use Rattle.report.specs.AnswerText.{textOf}
 
 -- the most bytes that are analysed

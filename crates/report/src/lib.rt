@@ -2,9 +2,10 @@
 ghost use Prim.Native.Nat.{_≤_, _<_};
 ghost use mathlib.Core.Path.{_≡_};
 ghost use lib.ListN.{length, take};
+ghost use Rattle.specification.specs.Answers.{leastRoom};
 ghost use Rattle.report.specs.Report.{mostBytes, textRoom, PrintedText, Reported};
-use graph::analysis;
 use input::Input;
+use specification::limits;
 use text::print;
 
 // The text of what was read into `space`, which holds a byte more than is analysed, so that a longer input shows.
@@ -41,8 +42,8 @@ fn print_answer(s: &[u8], text: &mut [u8]) -> usize
     print::print(r.number, &answer[..written], text)
 }
 
-fn answer_room() -> [u8; 5120]
-    ensures { λ r. ⌜ 5120 ≡ length r ⌝ }
+fn answer_room() -> [u8; limits::LEAST_ROOM]
+    ensures { λ r. ⌜ leastRoom ≡ length r ⌝ }
 {
-    [0; 5120]
+    [0; limits::LEAST_ROOM]
 }

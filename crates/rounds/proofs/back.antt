@@ -1,7 +1,7 @@
--- What the proofs of `tight` and `cycle_back` use. Assumes nothing.
+-- What the proofs of `tight` and `cycle_back` use.
 mod Ahead
 mod Stored
 mod Marks
 mod Course
 mod Step
-mod Ends
+mod CourseEnd

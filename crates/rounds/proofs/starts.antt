@@ -4,4 +4,4 @@ mod Relaxed
 mod Partly
 mod Flat
 mod Buffer
-mod Going
+mod RoundsMade

@@ -1,4 +1,4 @@
--- What the walk back through the rows asks and finds. Assumes nothing.
+-- What the walk back through the rows asks and finds.
 use Prim.Native.Nat.{ℕ, _-_, _≤_, _<_}
 use mathlib.Core.List.{List}
 use lib.ListN.{length, take, drop}
@@ -14,7 +14,7 @@ pub record Enclosed (cs : List ℕ) (n : ℕ) : Type 0 where
   pub among : Among (priced cs) ports
 
 -- each of n rounds over the edges of n ports changed something, and the last raised port j
-pub record Restless (cs rows : List ℕ) (n j : ℕ) (steps : List ℕ) : Type 0 where
+pub record EveryRoundRaises (cs rows : List ℕ) (n j : ℕ) (steps : List ℕ) : Type 0 where
   pub fitting : Fitting cs rows n
   pub moving : Moving cs rows n j
   pub enclosed : Enclosed cs n

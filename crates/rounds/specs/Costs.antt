@@ -1,8 +1,8 @@
--- Edges at one a/b, in one list, four numbers to an edge: from, to, gain and loss. Assumes nothing.
+-- Edges at one a/b, in one list, four numbers to an edge: from, to, gain and loss.
 use Prim.Native.Nat.{ℕ, _+_, _*_, _/_, _≤_, _<_}
 use mathlib.Core.List.{List}
 use lib.ListN.{length, getD}
-use Rattle.rounds.specs.Graph.{Graph}
+use Rattle.specification.specs.Periods.{Graph}
 
 abbrev pub count : List ℕ → ℕ
 count cs = length cs / 4

@@ -1,6 +1,4 @@
--- A constraint graph: its walks and cycles, rounds of starts, and what they come to.
-pub mod Lists
-pub mod Graph
+-- Walks and cycles of a constraint graph, rounds of starts, and what they come to.
 pub mod Walks
 pub mod Rounds
 pub mod Trails

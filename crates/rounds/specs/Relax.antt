@@ -1,4 +1,4 @@
--- What relaxing an edge, and a round over every edge, ask and do. Assumes nothing.
+-- What relaxing an edge, and a round over every edge, ask and do.
 use Prim.Native.Nat.{ℕ, _+_, _*_, _≤_, _<_, _^_}
 use mathlib.Core.Path.{_≡_}
 use mathlib.Core.Logic.{_≢_}
@@ -16,7 +16,7 @@ pub record Ready (cs s t : List ℕ) (k : ℕ) : Type 0 where
   pub least : getD t (toOf cs k) 0 + lossOf cs k < 2 ^ 64
 
 -- a round can be made from the starts s: those of 64 ports, after at most 64 rounds from zero
-pub record Low (cs s : List ℕ) : Type 0 where
+pub record CanRound (cs s : List ℕ) : Type 0 where
   pub edges : Priced cs
   pub ports : length s ≡ 64
   pub starts : (j : ℕ) → getD s j 0 ≤ 64 * mostCost
@@ -32,7 +32,7 @@ pub record Grown (s t : List ℕ) (j : ℕ) : Type 0 where
   pub grew : j ≢ 64 → getD s j 0 < getD t j 0
   pub lower : (i : ℕ) → i < j → getD t i 0 ≤ getD s i 0
 
--- a round makes t of the starts s, and answers j
+-- a round makes t of the starts s, and returns j
 pub record Round (cs s t : List ℕ) (j : ℕ) : Type 0 where
   pub made : t ≡ roundOf cs s
   pub raised : Raised s t j

@@ -1,11 +1,11 @@
--- Rounds: each raises every start to the most that an edge brings, and many of them end at the least starts. Assumes nothing.
+-- Rounds: each raises every start to the most that an edge brings, and many of them end at the least starts.
 use Prim.Native.Nat.{ℕ, zero, suc, _+_, _*_, _-_, _≤_, _<_, max}
 use mathlib.Core.Path.{_≡_, sym, ap}
 use mathlib.Core.Logic.{_⊎_, inl, inr, _≢_, ⊎-elim}
 use native.Mathlib.Omega.{arith}
 use native.Mathlib.Decide.{ℕ-discrete}
-use Rattle.rounds.specs.Lists.{lt-or-le}
-use Rattle.rounds.specs.Graph.{Graph, gain, loss, LeastStarts}
+use Rattle.numbers.specs.ListLaws.{lt-or-le}
+use Rattle.specification.specs.Periods.{Graph, gain, loss, LeastStarts}
 
 -- the laws of a round from s to t; nothing else of it is used
 pub record IsRound (IsEdge : ℕ → Type 0) (from to gain loss : ℕ → ℕ) (s t : ℕ → ℕ) : Type 0 where

@@ -1,12 +1,12 @@
--- Rounds of starts from zero, each from the starts before it. Assumes nothing.
+-- Rounds of starts from zero, each from the starts before it.
 use Prim.Native.Nat.{ℕ, zero, suc, _+_, _-_, _*_, _≤_, _<_, max}
 use mathlib.Core.Path.{_≡_}
 use mathlib.Core.Logic.{_≢_}
 use mathlib.Core.List.{List}
 use lib.ListN.{length, getD, set, take, drop, replicate}
 use Rattle.rounds.specs.Costs.{count, fromOf, toOf, gainOf, lossOf, Priced}
-use Rattle.rounds.specs.declared.starts.Outcome.{Outcome}
-use Rattle.rounds.specs.declared.starts.Outcome.the-variants.{Settled, Unsettled}
+use Rattle.rounds.specs.declared.starts.RoundsEnd.{RoundsEnd}
+use Rattle.rounds.specs.declared.starts.RoundsEnd.the-variants.{Settled, Unsettled}
 
 -- what edge k asks of its receiver, from the starts s, and no less than 0
 abbrev pub asked : List ℕ → List ℕ → ℕ → ℕ
@@ -38,6 +38,10 @@ startOf cs r j = getD (starts cs r) j 0
 abbrev pub row : List ℕ → ℕ → List ℕ
 row rows r = take 64 (drop (64 * r) rows)
 
+-- the costs of so many edges behind row n of a buffer
+abbrev pub costsIn : List ℕ → ℕ → ℕ → List ℕ
+costsIn work n edges = take (4 * edges) (drop (64 * n + 64) work)
+
 -- rows 0 to last hold the starts after as many rounds
 pub record Kept (cs rows : List ℕ) (last : ℕ) : Type 0 where
   pub rows-are : (r : ℕ) → r ≤ last → row rows r ≡ starts cs r
@@ -63,6 +67,6 @@ pub record Moving (cs rows : List ℕ) (n j : ℕ) : Type 0 where
   pub grew : startOf cs (n - 1) j < startOf cs n j
   pub lower : (i : ℕ) → i < j → startOf cs n i ≡ startOf cs (n - 1) i
 
-abbrev pub Ran : List ℕ → List ℕ → ℕ → Outcome → Type 0
-Ran cs rows n (Settled r) = Stopped cs rows n r
-Ran cs rows n (Unsettled j) = Moving cs rows n j
+abbrev pub RoundsResult : List ℕ → List ℕ → ℕ → RoundsEnd → Type 0
+RoundsResult cs rows n (Settled r) = Stopped cs rows n r
+RoundsResult cs rows n (Unsettled j) = Moving cs rows n j

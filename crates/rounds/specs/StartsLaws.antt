@@ -1,4 +1,4 @@
--- Laws of starts: rounds from zero are the rounds of the priced graph, and no start is large. Assumes nothing.
+-- Laws of starts: rounds from zero are the rounds of the priced graph, and no start is large.
 use Prim.Native.Nat.{ℕ, zero, suc, _*_, _≤_, _<_, max}
 use mathlib.Core.Path.{_≡_, refl, _∙_}
 use mathlib.Core.List.{List}

@@ -1,4 +1,4 @@
--- What the search for a tight edge asks and finds. Assumes nothing.
+-- What the search for a tight edge asks and finds.
 use Prim.Native.Nat.{ℕ, _+_, _*_, _≤_, _<_}
 use mathlib.Core.Path.{_≡_}
 use mathlib.Core.List.{List}

@@ -1,12 +1,13 @@
--- Trails: the walk back through the rows from a start that grows, and the positive cycle in it. Assumes nothing.
+-- Trails: the walk back through the rows from a start that grows, and the positive cycle in it.
 use Prim.Native.Nat.{ℕ, zero, suc, _+_, _-_, _≤_, _<_}
 use mathlib.Core.Path.{_≡_, sym, ap}
 use mathlib.Core.List.{List, [], _∷_, List·Memᴰ·not-nil as not-nil}
 use native.Mathlib.Numerals.{unary-clauses}
 use native.Mathlib.Omega.{arith}
 use lib.ListN.{length, getD, take, drop, length-map, length-take, take-append-drop}
-use Rattle.rounds.specs.Lists.{_∈_, sum, Distinct, none, more, member?, position}
-use Rattle.rounds.specs.Graph.{Graph, Walk, stop, step, reached}
+use Rattle.numbers.specs.Lists.{_∈_, sum, Distinct, none, more}
+use Rattle.numbers.specs.ListLaws.{member?, position}
+use Rattle.specification.specs.Periods.{Graph, Walk, stop, step, reached}
 use Rattle.rounds.specs.Walks.{Among, walk-short, simple-left, PositiveCycle}
 use Rattle.rounds.specs.Rounds.{Rows}
 

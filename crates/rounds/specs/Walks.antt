@@ -1,4 +1,4 @@
--- Walks of the constraint graph: joining and splitting them, their sums, and the simple cycles in them. Assumes nothing.
+-- Walks of the constraint graph: joining and splitting them, their sums, and the simple cycles in them.
 use Prim.Native.Nat.{ℕ, zero, suc, _+_, _*_, _≤_, _<_}
 use mathlib.Core.Path.{_≡_, refl, ap}
 use mathlib.Core.Logic.{_⊎_, inl, inr, ⊎-elim}
@@ -6,8 +6,9 @@ use mathlib.Core.List.{List, [], _∷_, _++_, List·Memᴰ·head as here, List·
 use native.Mathlib.Omega.{arith}
 use native.Mathlib.Nat.{mul-le-mul-right}
 use lib.ListN.{length, length-map, length-append}
-use Rattle.rounds.specs.Lists.{_∈_, lt-or-le, sum, sum-append, sum-bound, Distinct, none, more, distinct-left, member?, pigeonhole}
-use Rattle.rounds.specs.Graph.{Graph, Walk, stop, step, reached, gain, loss, Meets, Cycle}
+use Rattle.numbers.specs.Lists.{_∈_, sum, Distinct, none, more}
+use Rattle.numbers.specs.ListLaws.{lt-or-le, sum-append, sum-bound, distinct-left, member?, pigeonhole}
+use Rattle.specification.specs.Periods.{Graph, Walk, stop, step, reached, gain, loss, Meets, Cycle}
 
 module _ {g : Graph} where
   pub join : {p q r : ℕ} {xs ys : List ℕ} → Walk g p q xs → Walk g q r ys → Walk g p r (xs ++ ys)

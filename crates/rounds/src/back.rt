@@ -2,7 +2,7 @@
 ghost use mathlib.Core.Path.{_≡_};
 ghost use lib.ListN.{length};
 ghost use Rattle.rounds.specs.Tight.{TightEdge, SomeTight};
-ghost use Rattle.rounds.specs.Back.{Restless, FoundCycle};
+ghost use Rattle.rounds.specs.Back.{EveryRoundRaises, FoundCycle};
 
 // The steps from first up to last, not last itself.
 pub struct Part {
@@ -32,7 +32,7 @@ fn tight(rows: &[u64], r: usize, costs: &[u64], p: usize) -> usize
 
 // From the port that round n raised, back along tight edges, to the first port that comes twice. Step r is the edge from row r to row r + 1.
 pub fn cycle_back(rows: &[u64], n: usize, costs: &[u64], port: usize, steps: &mut [u64]) -> Part
-    requires { ⌜ Restless (now costs) (now rows) n port (now steps) ⌝ }
+    requires { ⌜ EveryRoundRaises (now costs) (now rows) n port (now steps) ⌝ }
     ensures { λ part. ⌜ FoundCycle (now (costs .entry)) (now (steps .exit)) part ⌝ }
     ensures { λ _. ⌜ length (now (steps .exit)) ≡ length (now (steps .entry)) ⌝ }
 {

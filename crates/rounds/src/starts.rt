@@ -3,14 +3,14 @@ ghost use mathlib.Core.Path.{_≡_};
 ghost use Prim.Native.Nat.{_+_, _*_, _≤_};
 ghost use lib.ListN.{length, replicate};
 ghost use Rattle.rounds.specs.Costs.{toOf};
-ghost use Rattle.rounds.specs.Starts.{asked, raise, Fitting, Ran, row};
-ghost use Rattle.rounds.specs.Relax.{Ready, Low, Grown, Round};
-ghost use Rattle.rounds.specs.Advance.{put, Ahead, Advanced};
+ghost use Rattle.rounds.specs.Starts.{asked, raise, costsIn, Fitting, RoundsResult};
+ghost use Rattle.rounds.specs.Relax.{Ready, CanRound, Grown, Round};
+ghost use Rattle.rounds.specs.Advance.{withRow, Ahead, Advanced};
 
-// The ports of a row, and the answer of a round that raised none.
+// The ports of a row, and what a round that raised none returns.
 const WIDTH: usize = 64;
 
-pub enum Outcome {
+pub enum RoundsEnd {
     // So many rounds changed something, and the next changed nothing.
     Settled(usize),
     // Each round that was allowed changed something; this is the lowest port that the last raised.
@@ -61,13 +61,12 @@ fn grown(old: &[u64], new: &[u64]) -> usize
     p
 }
 
-// One round over every edge, each from the starts old. Answers the lowest port that it raised, or WIDTH.
+// One round over every edge, each from the starts old, of which new is a copy. Returns the lowest port that it raised, or WIDTH.
 fn round(old: &[u64], new: &mut [u64], costs: &[u64]) -> usize
-    requires { ⌜ Low (now costs) (now old) ⌝ }
-    requires { ⌜ length (now new) ≡ 64 ⌝ }
+    requires { ⌜ CanRound (now costs) (now old) ⌝ }
+    requires { ⌜ now new ≡ now old ⌝ }
     ensures { λ j. ⌜ Round (now (costs .entry)) (now (old .entry)) (now (new .exit)) j ⌝ }
 {
-    copy(old, new);
     let edges = costs.len() / 4;
     let mut k: usize = 0;
     while k < edges {
@@ -77,52 +76,51 @@ fn round(old: &[u64], new: &mut [u64], costs: &[u64]) -> usize
     grown(old, new)
 }
 
-// A round from row r into row r + 1.
-fn advance(rows: &mut [u64], r: usize, costs: &[u64]) -> usize
-    requires { ⌜ Ahead (now costs) (now rows) r ⌝ }
-    ensures { λ j. ⌜ Advanced (now (costs .entry)) r (now (rows .entry)) (now (rows .exit)) j ⌝ }
+// A round from row r into row r + 1. Rows and costs stand in one slice, so the new row is made apart and then copied; the round from a copy of
+// the old row is faster code than one from within the slice.
+fn advance(work: &mut [u64], r: usize, n: usize, edges: usize) -> usize
+    requires { ⌜ Ahead (now work) r n edges ⌝ }
+    ensures { λ j. ⌜ Advanced (costsIn (now (work .entry)) n edges) r (now (work .entry)) (now (work .exit)) j ⌝ }
+    ensures { λ _. ⌜ costsIn (now (work .exit)) n edges ≡ costsIn (now (work .entry)) n edges ⌝ }
 {
     let at = WIDTH * r;
     let next = at + WIDTH;
-    let end = next + WIDTH;
+    let last = next + WIDTH;
+    let base = WIDTH * n + WIDTH;
+    let end = base + 4 * edges;
     let mut old = [0u64; 64];
-    copy(&rows[at..next], &mut old);
-    round(&old, &mut rows[next..end], costs)
+    copy(&work[at..next], &mut old);
+    let mut new = old;
+    let grew = round(&old, &mut new, &work[base..end]);
+    copy(&new, &mut work[next..last]);
+    grew
 }
 
-fn clear(rows: &mut [u64])
-    requires { ⌜ 64 ≤ length (now rows) ⌝ }
-    ensures { λ _. ⌜ now (rows .exit) ≡ put (now (rows .entry)) 0 (replicate 64 0) ⌝ }
+fn clear(work: &mut [u64])
+    requires { ⌜ 64 ≤ length (now work) ⌝ }
+    ensures { λ _. ⌜ now (work .exit) ≡ withRow (now (work .entry)) 0 (replicate 64 0) ⌝ }
 {
     let zero = [0u64; 64];
-    copy(&zero, &mut rows[..WIDTH]);
+    copy(&zero, &mut work[..WIDTH]);
 }
 
-// Rounds from zero until one changes nothing, at most n. Row r of rows holds the starts after r rounds.
-pub fn settle(rows: &mut [u64], n: usize, costs: &[u64]) -> Outcome
-    requires { ⌜ Fitting (now costs) (now rows) n ⌝ }
-    ensures { λ o. ⌜ Ran (now (costs .entry)) (now (rows .exit)) n o ⌝ }
-    ensures { λ o. ⌜ length (now (rows .exit)) ≡ length (now (rows .entry)) ⌝ }
+// Rounds from zero until one changes nothing, at most n. Row r of work holds the starts after r rounds; the costs stand behind row n.
+pub fn settle(work: &mut [u64], n: usize, edges: usize) -> RoundsEnd
+    requires { ⌜ Fitting (costsIn (now work) n edges) (now work) n ⌝ }
+    requires { ⌜ 64 * n + 64 + 4 * edges ≤ length (now work) ⌝ }
+    ensures { λ o. ⌜ RoundsResult (costsIn (now (work .entry)) n edges) (now (work .exit)) n o ⌝ }
+    ensures { λ _. ⌜ costsIn (now (work .exit)) n edges ≡ costsIn (now (work .entry)) n edges ⌝ }
+    ensures { λ _. ⌜ length (now (work .exit)) ≡ length (now (work .entry)) ⌝ }
 {
-    clear(rows);
+    clear(work);
     let mut grew = WIDTH;
     let mut r: usize = 0;
     while r < n {
-        grew = advance(rows, r, costs);
+        grew = advance(work, r, n, edges);
         if grew == WIDTH {
-            return Outcome::Settled(r);
+            return RoundsEnd::Settled(r);
         }
         r = r + 1;
     }
-    Outcome::Unsettled(grew)
-}
-
-// Copies row r.
-pub fn row_into(rows: &[u64], r: usize, starts: &mut [u64])
-    requires { ⌜ (64 * r + 64 ≤ length (now rows)) × (length (now starts) ≡ 64) ⌝ }
-    ensures { λ _. ⌜ now (starts .exit) ≡ row (now (rows .entry)) r ⌝ }
-{
-    let first = WIDTH * r;
-    let last = first + WIDTH;
-    copy(&rows[first..last], starts);
+    RoundsEnd::Unsettled(grew)
 }

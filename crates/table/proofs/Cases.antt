@@ -1,11 +1,11 @@
--- Small tables with the number that each gives: every rule from 2 to 12 at its boundaries. The program `cases` runs the long ones. Assumes nothing.
+-- Small tables with the number that each gives: every rule from 2 to 12 at its boundaries. The program `cases` runs the long ones.
 use Prim.Native.Nat.{ℕ, _+_, _-_}
 use mathlib.Core.Path.{_≡_, refl}
 use mathlib.Core.List.{List, [], _∷_, _++_, map}
-use Rattle.records.specs.Bytes.{bytes, numberAt}
-use Rattle.table.specs.Signed.{forward, back}
-use Rattle.records.specs.Answer.{encode}
-use Rattle.table.specs.Record.{
+use Rattle.specification.specs.Bytes.{bytes, numberAt, encode}
+use Rattle.specification.specs.Reading.{
+  forward,
+  back,
   lengthFaulty,
   partFaulty,
   partsFaulty,
@@ -21,8 +21,10 @@ use Rattle.table.specs.Record.{
   bufferAt,
   kindAt,
   recordAt,
+  readFrom,
+  readOn,
+  readTable,
 }
-use Rattle.table.specs.Reading.{readFrom, readOn, readTable}
 
 record Case : Type 0 where
   table : List ℕ

@@ -1,4 +1,4 @@
--- Numbers stored one behind the other. Assumes nothing.
+-- Numbers stored one behind the other.
 use Prim.Native.Nat.{ℕ, suc, _+_, _≤_, _<_}
 use mathlib.Core.Path.{_≡_, refl, _∙_}
 use mathlib.Core.List.{List}

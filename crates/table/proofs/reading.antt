@@ -1,3 +1,3 @@
 -- What the proofs of `read_on` and `read_table` use.
 mod Filling
-mod Going
+mod Turn

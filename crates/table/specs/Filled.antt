@@ -1,15 +1,14 @@
--- What reading leaves in the slices that are lent to it. Assumes nothing.
+-- What reading leaves in the slices that are lent to it.
 use Prim.Native.Nat.{ℕ, _+_, _-_, _*_, _/_, _≤_, min}
 use mathlib.Core.Path.{_≡_}
 use mathlib.Core.List.{List, _++_, map}
 use lib.ListN.{length, take}
 use lib.Seq.{sets}
-use Rattle.table.specs.Table.{Table}
-use Rattle.table.specs.Limits.{mostPorts, mostLinks}
+use Rattle.specification.specs.Table.{Table, mostPorts, mostLinks}
 use Rattle.table.specs.Slices.{portNumbers, linkNumbers}
-use Rattle.table.specs.Reading.{Reading}
-use Rattle.table.specs.declared.Link.{Link}
-use Rattle.table.specs.declared.record.Before.{Before}
+use Rattle.specification.specs.Reading.{Reading}
+use Rattle.specification.specs.declared.Link.{Link}
+use Rattle.specification.specs.declared.Before.{Before}
 use Rattle.table.specs.declared.reading.Counts.{Counts}
 
 -- what is read behind other ports stands behind them: its links with their ends moved up

@@ -1,4 +1,4 @@
--- What a caller of the reader knows of the slices. Assumes nothing.
+-- What a caller of the reader knows of the slices.
 use Prim.Native.Nat.{ℕ, _+_, _-_, _*_, _≤_}
 use mathlib.Core.Path.{_≡_, refl, ap, sym, _∙_}
 use mathlib.Core.List.{List, [], _∷_, _++_, map}
@@ -6,16 +6,16 @@ use native.Mathlib.Nat.{zero-add}
 use native.Mathlib.Omega.{arith}
 use lib.ListN.{length, take, drop, length-append, length-map}
 use lib.Seq.{sets, sets-eq, length-take-le, take-at}
-use Rattle.table.specs.Table.{Table}
-use Rattle.table.specs.Limits.{WellFormed}
+use Rattle.specification.specs.Table.{Table}
+use Rattle.table.specs.WellFormed.{WellFormed}
 use Rattle.table.specs.Slices.{portNumbers, linkNumbers, tableOf}
 use Rattle.table.specs.SliceLaws.{length-port-numbers, length-link-numbers, table-back}
-use Rattle.table.specs.Reading.{Reading, start, readTable}
-use Rattle.table.specs.ReadingFacts.{well-formed}
+use Rattle.specification.specs.Reading.{Reading, start, readTable}
+use Rattle.table.specs.ReadingLaws.{well-formed}
 use Rattle.table.specs.Filled.{moved, Filled, Front, behind}
-use Rattle.table.specs.declared.Port.{Port}
-use Rattle.table.specs.declared.Link.{Link}
-use Rattle.table.specs.declared.record.Before.{Before}
+use Rattle.specification.specs.declared.Port.{Port}
+use Rattle.specification.specs.declared.Link.{Link}
+use Rattle.specification.specs.declared.Before.{Before}
 use Rattle.table.specs.declared.reading.Counts.{Counts}
 
 port-numbers-append : (ps qs : List Port) → portNumbers (ps ++ qs) ≡ portNumbers ps ++ portNumbers qs

@@ -1,12 +1,8 @@
--- What the contracts of this crate cite, and what is known of a table that was read.
-pub mod Signed
-pub mod Table
-pub mod Limits
-pub mod Record
-pub mod Facts
+-- How a table stands in slices, what reading leaves there, and what is known of a table that was read.
+pub mod WellFormed
+pub mod RecordLaws
 pub mod Slices
 pub mod SliceLaws
-pub mod Reading
-pub mod ReadingFacts
+pub mod ReadingLaws
 pub mod Filled
 pub mod FilledLaws

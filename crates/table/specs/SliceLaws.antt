@@ -1,4 +1,4 @@
--- Laws of tables in slices. Assumes nothing.
+-- Laws of tables in slices.
 use Prim.Native.Nat.{ℕ, zero, suc, _+_, _*_, _/_, _≤_, _<_}
 use mathlib.Core.Path.{_≡_, refl, ap, sym, _∙_}
 use mathlib.Core.Bool.{Bool, true, false}
@@ -10,10 +10,10 @@ use lib.ListN.{length, getD, length-append, List·getD-append}
 use lib.Seq.{getD-append-seam, ext-getD}
 use lib.Dec.{eqb}
 use mir.Val.{boolByte}
-use Rattle.table.specs.Table.{Table, noPort, noLink}
+use Rattle.specification.specs.Table.{Table, noPort, noLink}
 use Rattle.table.specs.Slices.{portNumbers, linkNumbers, portIn, linkIn, firsts, portsOf, linksOf, tableOf, PortFields, LinkFields, SameLink}
-use Rattle.table.specs.declared.Port.{Port}
-use Rattle.table.specs.declared.Link.{Link}
+use Rattle.specification.specs.declared.Port.{Port}
+use Rattle.specification.specs.declared.Link.{Link}
 
 -- ---- f of the first numbers
 module _ {A : Type 0} (f : ℕ → A) where

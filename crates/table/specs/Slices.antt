@@ -1,13 +1,13 @@
--- How a table stands in two slices of numbers: two numbers for each port, nine for each link. Assumes nothing.
+-- How a table stands in two slices of numbers: two numbers for each port, nine for each link.
 use Prim.Native.Nat.{ℕ, zero, suc, _+_, _*_, _/_}
 use mathlib.Core.Path.{_≡_}
 use mathlib.Core.List.{List, [], _∷_, _++_}
 use lib.ListN.{length, getD}
 use lib.Dec.{eqb}
 use mir.Val.{boolByte}
-use Rattle.table.specs.Table.{Table}
-use Rattle.table.specs.declared.Port.{Port}
-use Rattle.table.specs.declared.Link.{Link}
+use Rattle.specification.specs.Table.{Table}
+use Rattle.specification.specs.declared.Port.{Port}
+use Rattle.specification.specs.declared.Link.{Link}
 
 -- ---- the numbers of ports and links
 abbrev pub portNumbers : List Port → List ℕ

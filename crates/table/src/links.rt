@@ -5,14 +5,14 @@ ghost use Prim.Native.Nat.{_+_, _*_, _≤_, _<_};
 ghost use mathlib.Core.List.{[], _∷_};
 ghost use lib.ListN.{length, getD};
 ghost use lib.Seq.{sets};
-ghost use Rattle.table.specs.Table.{noLink};
-ghost use Rattle.table.specs.Limits.{LinkFits};
+ghost use Rattle.specification.specs.Table.{noLink};
+ghost use Rattle.table.specs.WellFormed.{LinkFits};
 ghost use Rattle.table.specs.Slices.{linkNumbers, linkIn, linksOf, LinkFields, SameLink};
-use crate::Events;
-use crate::Link;
-use crate::Ticks;
 use crate::numbers;
-use crate::put;
+use crate::store;
+use specification::Events;
+use specification::Link;
+use specification::Ticks;
 
 pub const WIDTH: usize = 9;
 
@@ -122,5 +122,5 @@ pub fn store(links: &mut [u32], k: usize, l: Link)
         events.1 as u32,
         l.buffer as u32,
     ];
-    put::put(links, WIDTH * k, &numbers);
+    store::store_numbers(links, WIDTH * k, &numbers);
 }

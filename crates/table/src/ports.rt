@@ -4,12 +4,12 @@ ghost use Prim.Native.Nat.{_+_, _*_, _≤_, _<_};
 ghost use mathlib.Core.List.{[], _∷_};
 ghost use lib.ListN.{length, getD};
 ghost use lib.Seq.{sets};
-ghost use Rattle.table.specs.Table.{noPort};
-ghost use Rattle.table.specs.Limits.{PortFits};
+ghost use Rattle.specification.specs.Table.{noPort};
+ghost use Rattle.table.specs.WellFormed.{PortFits};
 ghost use Rattle.table.specs.Slices.{portNumbers, portIn, portsOf, PortFields};
-use crate::Port;
 use crate::numbers;
-use crate::put;
+use crate::store;
+use specification::Port;
 
 pub const WIDTH: usize = 2;
 
@@ -60,5 +60,5 @@ pub fn store(ports: &mut [u32], p: usize, port: Port)
     ensures { λ _. ⌜ now (ports .exit) ≡ sets (now (ports .entry)) (2 * p) (portNumbers (port ∷ [])) ⌝ }
 {
     let numbers: [u32; WIDTH] = [port.num as u32, port.den as u32];
-    put::put(ports, WIDTH * p, &numbers);
+    store::store_numbers(ports, WIDTH * p, &numbers);
 }

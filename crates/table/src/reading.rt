@@ -2,14 +2,14 @@
 ghost use mathlib.Core.Path.{_≡_};
 ghost use Prim.Native.Nat.{_+_, _<_};
 ghost use lib.ListN.{length};
-ghost use Rattle.table.specs.Reading.{withPort, withLink, readOn, start, readTable};
+ghost use Rattle.specification.specs.Reading.{withPort, withLink, readOn, start, readTable};
 ghost use Rattle.table.specs.Filled.{moved, Room, Filled};
-use crate::Link;
 use crate::links;
 use crate::ports;
 use crate::record;
-use crate::record::Before;
-use crate::record::Read;
+use specification::Before;
+use specification::Link;
+use specification::Read;
 
 // The number of document 01, 0 where there is no fault, and how many ports and links the slices hold.
 pub struct Counts {

@@ -2,45 +2,16 @@
 ghost use mathlib.Core.Path.{_≡_};
 ghost use Prim.Native.Nat.{_+_, _≤_, _<_};
 ghost use lib.ListN.{length};
-ghost use Rattle.table.specs.Record.{
-  lengthFaulty,
-  partFaulty,
-  partsFaulty,
-  endsFaulty,
-  ticksAt,
-  eventsAt,
-  amountFaulty,
-  portOf,
-  linkOf,
-  portAt,
-  linkAt,
-  kindAt,
-  recordAt,
-};
-use crate::Events;
-use crate::Link;
-use crate::Port;
-use crate::Ticks;
-use crate::limits;
+ghost use Rattle.specification.specs.Reading.{lengthFaulty, partFaulty, partsFaulty, endsFaulty, ticksAt, eventsAt, amountFaulty, portOf, linkOf, portAt, linkAt, kindAt, recordAt};
 use crate::numbers;
-
-// What stands in the input before a record.
-pub struct Before {
-    // The ports and links so far: for the limits.
-    pub ports: usize,
-    pub links: usize,
-    // From and to name the ports below this number.
-    pub named: usize,
-    pub port_may_come: bool,
-}
-
-// The record at a place, with the place behind it.
-pub enum Read {
-    PortRecord(Port, usize),
-    LinkRecord(Link, usize),
-    Refused(u64),
-    End,
-}
+use records::read::number_at;
+use specification::Before;
+use specification::Events;
+use specification::Link;
+use specification::Port;
+use specification::Read;
+use specification::Ticks;
+use specification::limits;
 
 fn length_faulty(s: &[u8], at: usize) -> bool
     requires { ⌜ at < length (now s) ⌝ }
@@ -50,7 +21,7 @@ fn length_faulty(s: &[u8], at: usize) -> bool
     if left < 2 {
         return true;
     }
-    let n = numbers::two_bytes(s, at) as usize;
+    let n = number_at(s, at, 2) as usize;
     if n < 2 {
         return true;
     }
@@ -71,10 +42,10 @@ fn parts_faulty(s: &[u8], at: usize) -> bool
     requires { ⌜ at + 4 ≤ length (now s) ⌝ }
     ensures { λ r. ⌜ r ≡ partsFaulty (now (s .entry)) at ⌝ }
 {
-    if part_faulty(numbers::two_bytes(s, at)) {
+    if part_faulty(number_at(s, at, 2)) {
         return true;
     }
-    part_faulty(numbers::two_bytes(s, at + 2))
+    part_faulty(number_at(s, at + 2, 2))
 }
 
 // From and to.
@@ -82,17 +53,17 @@ fn ends_faulty(s: &[u8], at: usize, named: usize) -> bool
     requires { ⌜ at + 4 ≤ length (now s) ⌝ }
     ensures { λ r. ⌜ r ≡ endsFaulty (now (s .entry)) at named ⌝ }
 {
-    if named as u64 <= numbers::two_bytes(s, at) {
+    if named as u64 <= number_at(s, at, 2) {
         return true;
     }
-    named as u64 <= numbers::two_bytes(s, at + 2)
+    named as u64 <= number_at(s, at + 2, 2)
 }
 
 fn ticks_at(s: &[u8], at: usize) -> Ticks
     requires { ⌜ at + 4 ≤ length (now s) ⌝ }
     ensures { λ r. ⌜ r ≡ ticksAt (now (s .entry)) at ⌝ }
 {
-    let v = numbers::four_bytes(s, at);
+    let v = number_at(s, at, 4);
     Ticks(numbers::forward_of(v), numbers::back_of(v))
 }
 
@@ -110,7 +81,7 @@ fn events_at(s: &[u8], at: usize) -> Events
     requires { ⌜ at + 4 ≤ length (now s) ⌝ }
     ensures { λ r. ⌜ r ≡ eventsAt (now (s .entry)) at ⌝ }
 {
-    let v = numbers::four_bytes(s, at);
+    let v = number_at(s, at, 4);
     Events(numbers::forward_of(v), numbers::back_of(v))
 }
 
@@ -118,8 +89,8 @@ fn port_of(s: &[u8], at: usize) -> Port
     requires { ⌜ at + 4 ≤ length (now s) ⌝ }
     ensures { λ r. ⌜ r ≡ portOf (now (s .entry)) at ⌝ }
 {
-    let num = numbers::two_bytes(s, at);
-    let den = numbers::two_bytes(s, at + 2);
+    let num = number_at(s, at, 2);
+    let den = number_at(s, at + 2, 2);
     Port { num, den }
 }
 
@@ -127,10 +98,10 @@ fn link_of(s: &[u8], at: usize, ticks: Ticks, events: Events, buffer: bool) -> L
     requires { ⌜ at + 8 ≤ length (now s) ⌝ }
     ensures { λ r. ⌜ r ≡ linkOf (now (s .entry)) at ticks events buffer ⌝ }
 {
-    let from = numbers::two_bytes(s, at) as usize;
-    let to = numbers::two_bytes(s, at + 2) as usize;
-    let num = numbers::two_bytes(s, at + 4);
-    let den = numbers::two_bytes(s, at + 6);
+    let from = number_at(s, at, 2) as usize;
+    let to = number_at(s, at + 2, 2) as usize;
+    let num = number_at(s, at + 4, 2);
+    let den = number_at(s, at + 6, 2);
     Link {
         from,
         to,
@@ -219,7 +190,7 @@ pub fn read_record(s: &[u8], at: usize, before: Before) -> Read
     if length_faulty(s, at) {
         return Read::Refused(2);
     }
-    let n = numbers::two_bytes(s, at) as usize;
-    let kind = numbers::two_bytes(s, at + 2);
+    let n = number_at(s, at, 2) as usize;
+    let kind = number_at(s, at + 2, 2);
     read_kind(s, at, n, kind, before)
 }

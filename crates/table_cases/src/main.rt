@@ -2,7 +2,7 @@
 ghost use Prim.Native.Nat.{_+_, _≤_, _<_};
 ghost use mathlib.Core.Path.{_≡_};
 ghost use lib.ListN.{length};
-ghost use Rattle.table.specs.Reading.{readTable};
+ghost use Rattle.specification.specs.Reading.{readTable};
 
 fn main() {
     let mut buffer = io::large_buffer();

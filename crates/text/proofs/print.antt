@@ -1,2 +1,2 @@
 -- What the proofs of the whole text use.
-mod Going
+mod Lines

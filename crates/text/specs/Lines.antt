@@ -1,4 +1,4 @@
--- The lines of the printed form of document 01, over the values that they show, as ASCII codes. Assumes nothing.
+-- The lines of the printed form of document 01, over the values that they show, as ASCII codes.
 use Prim.Native.Nat.{ℕ, zero, suc, _*_, _/_, _%_}
 use mathlib.Core.Bool.{Bool, cond}
 use mathlib.Core.List.{List, [], _∷_, _++_}

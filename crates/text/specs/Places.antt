@@ -1,4 +1,4 @@
--- What is known where a record lies. Assumes nothing.
+-- What is known where a record lies.
 use Prim.Native.Nat.{ℕ, _+_, _≤_, _<_}
 use mathlib.Core.Path.{_≡_, refl}
 use mathlib.Core.Bool.{Bool, true, false, cond}
@@ -6,7 +6,7 @@ use mathlib.Core.List.{List}
 use lib.Dec.{eqb, ltb, leb}
 use lib.ListN.{length}
 use borrow.Author.Tests.{eqb-true, ltb-true, leb-true}
-use Rattle.records.specs.Bytes.{numberAt}
+use Rattle.specification.specs.Bytes.{numberAt}
 use Rattle.text.specs.Printed.{hasLine, hasPeriod, isRecord}
 
 pub record Lies (s : List ℕ) (at : ℕ) : Type 0 where

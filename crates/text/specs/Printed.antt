@@ -1,22 +1,11 @@
--- The printed form of an answer's bytes: the number, then a line for each record. Assumes nothing.
+-- The printed form of an answer's bytes: the number, then a line for each record.
 use Prim.Native.Nat.{ℕ, zero, suc, _+_, _*_, _-_, _/_}
 use mathlib.Core.Bool.{Bool, true, false, cond, not}
 use mathlib.Core.List.{List, [], _++_}
 use lib.Dec.{eqb, ltb, leb}
 use lib.ListN.{length}
-use Rattle.records.specs.Bytes.{numberAt}
-use Rattle.text.specs.Lines.{
-  loopWord,
-  floorCycleWord,
-  blockWord,
-  answerLine,
-  portLine,
-  bufferLine,
-  stepText,
-  connectionText,
-  itemsLine,
-  floorPortLine,
-}
+use Rattle.specification.specs.Bytes.{numberAt}
+use Rattle.text.specs.Lines.{loopWord, floorCycleWord, blockWord, answerLine, portLine, bufferLine, stepText, connectionText, itemsLine, floorPortLine}
 
 -- the floor, where it is the first record, and else the block
 unfoldable pub cycleWord : (number : ℕ) → List ℕ

@@ -1,4 +1,4 @@
--- The lines of records one behind another are the lines of each. Assumes nothing.
+-- The lines of records one behind another are the lines of each.
 use Prim.Native.Nat.{ℕ, zero, suc, _+_, _-_, _≤_, _<_, _^_}
 use mathlib.Core.Path.{_≡_, refl}
 use mathlib.Core.Bool.{Bool, true, false}
@@ -8,24 +8,9 @@ use native.Mathlib.Omega.{arith}
 use lib.Dec.{ltb, leb}
 use lib.ListN.{length, length-append}
 use borrow.Author.Tests.{ltb-true, ltb-false, leb-true, leb-false, lt-ltb, le-ltb, le-leb, lt-leb}
-use Rattle.records.specs.Answer.{encode}
-use Rattle.records.specs.Bytes.{numberAt}
+use Rattle.specification.specs.Bytes.{encode, numberAt}
 use Rattle.records.specs.NumberLaws.{number-behind, encode-length, length-field, kind-field}
-use Rattle.text.specs.Printed.{
-  hasLine,
-  itemsText,
-  portAt,
-  bufferAt,
-  stepAt,
-  connectionAt,
-  loopAt,
-  cycleAt,
-  floorAt,
-  hasPeriod,
-  isRecord,
-  recordLine,
-  recordLines,
-}
+use Rattle.text.specs.Printed.{hasLine, itemsText, portAt, bufferAt, stepAt, connectionAt, loopAt, cycleAt, floorAt, hasPeriod, isRecord, recordLine, recordLines}
 
 -- ---- what stands in front of the bytes only moves the place
 items-behind : (item item′ : ℕ → List ℕ) (ahead : ℕ)

@@ -1,11 +1,11 @@
--- Words put into the text one behind another. Assumes nothing.
+-- Words put into the text one behind another.
 use Prim.Native.Nat.{ℕ, _+_, _≤_}
 use mathlib.Core.Path.{_≡_, refl, _∙_}
 use mathlib.Core.List.{List, [], _++_}
 use native.Mathlib.Omega.{arith}
 use lib.ListN.{length, length-append}
 use lib.Seq.{sets, sets-eq}
-use Rattle.records.specs.Answer.{Written}
+use Rattle.specification.specs.Bytes.{Written}
 use Rattle.records.specs.WrittenLaws.{sets-append}
 
 -- a line stands in the text from a place on, what was around it is unchanged, and the end is the place behind it

@@ -1,4 +1,4 @@
--- How long the printed form is at most. Assumes nothing.
+-- How long the printed form is at most.
 use Prim.Native.Nat.{ℕ, zero, suc, _+_, _*_, _-_, _/_, _%_, _≤_}
 use mathlib.Core.Path.{_≡_, refl}
 use mathlib.Core.Bool.{Bool, true, false, cond}
@@ -9,7 +9,7 @@ use lib.ListN.{length, length-append}
 use borrow.Author.Tests.{eqb-true}
 use Rattle.io.specs.Digits.{glyph}
 use Rattle.fraction.specs.declared.Fraction.{Fraction}
-use Rattle.records.specs.Bytes.{numberAt}
+use Rattle.specification.specs.Bytes.{numberAt}
 use Rattle.text.specs.Places.{Lies, is-record, size-port, size-buffer, size-loop, size-cycle, size-floor}
 use Rattle.text.specs.Lines.{
   decimal,
@@ -40,22 +40,7 @@ use Rattle.text.specs.Lines.{
   itemsLine,
   floorPortLine,
 }
-use Rattle.text.specs.Printed.{
-  cycleWord,
-  itemsText,
-  portAt,
-  bufferAt,
-  stepAt,
-  connectionAt,
-  loopAt,
-  cycleAt,
-  floorAt,
-  isRecord,
-  recordLine,
-  recordLines,
-  printed,
-  printedRoom,
-}
+use Rattle.text.specs.Printed.{cycleWord, itemsText, portAt, bufferAt, stepAt, connectionAt, loopAt, cycleAt, floorAt, isRecord, recordLine, recordLines, printed, printedRoom}
 
 pub record AtMost (xs : List ℕ) (most : ℕ) : Type 0 where
   pub within : length xs ≤ most

@@ -1,26 +1,16 @@
-// Puts the line of a record into the text at a place, and answers the place behind it.
+// Puts the line of a record into the text at a place, and returns the place behind it.
 ghost use Prim.Native.Nat.{_+_, _*_, _≤_, _<_};
 ghost use lib.ListN.{length};
-ghost use Rattle.records.specs.Bytes.{numberAt};
+ghost use Rattle.specification.specs.Bytes.{numberAt};
 ghost use Rattle.text.specs.Lines.{portText, signWord};
-ghost use Rattle.text.specs.Printed.{
-  cycleWord,
-  itemsText,
-  portAt,
-  bufferAt,
-  stepAt,
-  connectionAt,
-  loopAt,
-  cycleAt,
-  floorAt,
-};
+ghost use Rattle.text.specs.Printed.{cycleWord, itemsText, portAt, bufferAt, stepAt, connectionAt, loopAt, cycleAt, floorAt};
 ghost use Rattle.text.specs.Put.{Put};
-use crate::number::number_at;
-use crate::put::put;
 use crate::put::put_decimal;
 use crate::put::put_field;
 use crate::put::put_fraction_field;
+use crate::put::put_word;
 use fraction::Fraction;
+use records::read::number_at;
 
 fn put_port_text(
     text: &mut [u8],
@@ -39,7 +29,7 @@ fn put_port_text(
     end = put_field(text, end, b" weight ", weight);
     end = put_fraction_field(text, end, b" period ", period);
     end = put_fraction_field(text, end, b" start ", start);
-    put(text, end, b"\n")
+    put_word(text, end, b"\n")
 }
 
 pub fn put_port(s: &[u8], at: usize, number: u64, text: &mut [u8], to: usize) -> usize
@@ -72,7 +62,7 @@ pub fn put_buffer(s: &[u8], at: usize, text: &mut [u8], to: usize) -> usize
 {
     let mut end = put_field(text, to, b"buffer ", number_at(s, at + 4, 2));
     end = put_field(text, end, b" size ", number_at(s, at + 6, 8));
-    put(text, end, b"\n")
+    put_word(text, end, b"\n")
 }
 
 fn put_sign(against: bool, text: &mut [u8], to: usize) -> usize
@@ -81,9 +71,9 @@ fn put_sign(against: bool, text: &mut [u8], to: usize) -> usize
     ensures within { λ r. ⌜ r ≤ to + 2 ⌝ }
 {
     if against {
-        return put(text, to, b" -");
+        return put_word(text, to, b" -");
     }
-    put(text, to, b" +")
+    put_word(text, to, b" +")
 }
 
 fn put_step(s: &[u8], at: usize, text: &mut [u8], to: usize) -> usize
@@ -115,9 +105,9 @@ pub fn put_loop(s: &[u8], at: usize, n: usize, text: &mut [u8], to: usize) -> us
     requires { ⌜ to + 5 + 22 * n ≤ length (now text) ⌝ }
     ensures { λ r. ⌜ Put (loopAt (now (s .entry)) at n) (now (text .entry)) (now (text .exit)) to r ⌝ }
 {
-    let mut end = put(text, to, b"loop");
+    let mut end = put_word(text, to, b"loop");
     end = put_steps(s, at + 4, n, text, end);
-    put(text, end, b"\n")
+    put_word(text, end, b"\n")
 }
 
 fn put_connections(s: &[u8], at: usize, n: usize, text: &mut [u8], to: usize) -> usize
@@ -141,9 +131,9 @@ fn put_cycle_word(number: u64, text: &mut [u8], to: usize) -> usize
     ensures within { λ r. ⌜ r ≤ to + 11 ⌝ }
 {
     if number == 0 {
-        return put(text, to, b"floor cycle");
+        return put_word(text, to, b"floor cycle");
     }
-    put(text, to, b"block")
+    put_word(text, to, b"block")
 }
 
 pub fn put_cycle(s: &[u8], at: usize, number: u64, n: usize, text: &mut [u8], to: usize) -> usize
@@ -153,7 +143,7 @@ pub fn put_cycle(s: &[u8], at: usize, number: u64, n: usize, text: &mut [u8], to
 {
     let mut end = put_cycle_word(number, text, to);
     end = put_connections(s, at + 4, n, text, end);
-    put(text, end, b"\n")
+    put_word(text, end, b"\n")
 }
 
 pub fn put_floor(s: &[u8], at: usize, text: &mut [u8], to: usize) -> usize
@@ -162,5 +152,5 @@ pub fn put_floor(s: &[u8], at: usize, text: &mut [u8], to: usize) -> usize
     ensures { λ r. ⌜ Put (floorAt (now (s .entry)) at) (now (text .entry)) (now (text .exit)) to r ⌝ }
 {
     let end = put_field(text, to, b"floor port ", number_at(s, at + 4, 2));
-    put(text, end, b"\n")
+    put_word(text, end, b"\n")
 }

@@ -2,8 +2,7 @@
 ghost use mathlib.Core.Path.{_≡_};
 ghost use Prim.Native.Nat.{_+_, _*_, _≤_};
 ghost use lib.ListN.{length};
-ghost use Rattle.records.specs.Bytes.{numberAt};
-ghost use Rattle.records.specs.Answer.{Written};
+ghost use Rattle.specification.specs.Bytes.{numberAt, Written};
 ghost use Rattle.text.specs.Printed.{hasLine, isRecord, recordLine, recordLines, printed, printedRoom};
 ghost use Rattle.text.specs.Places.{Lies};
 ghost use Rattle.text.specs.Put.{Put};
@@ -12,9 +11,9 @@ use crate::lines::put_cycle;
 use crate::lines::put_floor;
 use crate::lines::put_loop;
 use crate::lines::put_port;
-use crate::number::number_at;
-use crate::put::put;
 use crate::put::put_field;
+use crate::put::put_word;
+use records::read::number_at;
 
 fn has_line(kind: u64, size: u64) -> bool
     ensures { λ r. ⌜ r ≡ hasLine kind size ⌝ }
@@ -87,14 +86,14 @@ fn put_records(s: &[u8], text: &mut [u8], to: usize) -> usize
     end
 }
 
-// The printed form of an answer: its number and its records' lines. Answers how many bytes of the text it wrote.
+// The printed form of an answer: its number and its records' lines. Returns how many bytes of the text it wrote.
 pub fn print(number: u64, records: &[u8], text: &mut [u8]) -> usize
     requires { ⌜ printedRoom (now records) ≤ length (now text) ⌝ }
     ensures { λ r. ⌜ Written (printed number (now (records .entry))) (now (text .entry)) (now (text .exit)) r ⌝ }
     ensures { λ r. ⌜ r ≤ length (now (text .exit)) ⌝ }
 {
     let mut end = put_field(text, 0, b"answer ", number);
-    end = put(text, end, b"\n");
+    end = put_word(text, end, b"\n");
     put_records(records, text, end)
 }
 
@@ -104,5 +103,5 @@ pub fn print_line(line: &[u8], text: &mut [u8]) -> usize
     ensures { λ r. ⌜ Written (now (line .entry)) (now (text .entry)) (now (text .exit)) r ⌝ }
     ensures { λ r. ⌜ r ≤ length (now (text .exit)) ⌝ }
 {
-    put(text, 0, line)
+    put_word(text, 0, line)
 }

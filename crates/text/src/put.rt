@@ -1,11 +1,11 @@
-// Puts words, numbers, fractions and fields into the text, each at a place, and answers the place behind it.
+// Puts words, numbers, fractions and fields into the text, each at a place, and returns the place behind it.
 ghost use Prim.Native.Nat.{_+_, _≤_};
 ghost use lib.ListN.{length};
 ghost use Rattle.text.specs.Lines.{decimal, field, fraction, fractionField};
 ghost use Rattle.text.specs.Put.{Put};
 use fraction::Fraction;
 
-pub fn put(text: &mut [u8], to: usize, word: &[u8]) -> usize
+pub fn put_word(text: &mut [u8], to: usize, word: &[u8]) -> usize
     requires { ⌜ to + length (now word) ≤ length (now text) ⌝ }
     ensures { λ r. ⌜ Put (now (word .entry)) (now (text .entry)) (now (text .exit)) to r ⌝ }
 {
@@ -24,7 +24,7 @@ pub fn put_decimal(text: &mut [u8], to: usize, n: u64) -> usize
 {
     let mut digits = [0u8; 20];
     let k = io::decimal(n, &mut digits);
-    put(text, to, &digits[..k])
+    put_word(text, to, &digits[..k])
 }
 
 fn put_fraction(text: &mut [u8], to: usize, f: Fraction) -> usize
@@ -33,7 +33,7 @@ fn put_fraction(text: &mut [u8], to: usize, f: Fraction) -> usize
     ensures within { λ r. ⌜ r ≤ to + 41 ⌝ }
 {
     let slash = put_decimal(text, to, f.num);
-    let over = put(text, slash, b"/");
+    let over = put_word(text, slash, b"/");
     put_decimal(text, over, f.den)
 }
 
@@ -43,7 +43,7 @@ pub fn put_field(text: &mut [u8], to: usize, word: &[u8], n: u64) -> usize
     ensures { λ r. ⌜ Put (field (now (word .entry)) n) (now (text .entry)) (now (text .exit)) to r ⌝ }
     ensures within { λ r. ⌜ r ≤ to + length (now (word .entry)) + 20 ⌝ }
 {
-    let end = put(text, to, word);
+    let end = put_word(text, to, word);
     put_decimal(text, end, n)
 }
 
@@ -53,6 +53,6 @@ pub fn put_fraction_field(text: &mut [u8], to: usize, word: &[u8], f: Fraction) 
     ensures { λ r. ⌜ Put (fractionField (now (word .entry)) f) (now (text .entry)) (now (text .exit)) to r ⌝ }
     ensures within { λ r. ⌜ r ≤ to + length (now (word .entry)) + 41 ⌝ }
 {
-    let end = put(text, to, word);
+    let end = put_word(text, to, word);
     put_fraction(text, end, f)
 }

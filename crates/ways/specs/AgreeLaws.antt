@@ -1,4 +1,4 @@
--- Where every closed way has the ratio 1, proportional weights exist. Assumes nothing.
+-- Where every closed way has the ratio 1, proportional weights exist.
 use Prim.Native.Nat.{ℕ, zero, suc, _*_, _≤_, _<_}
 use mathlib.Core.Bool.{false, cond}
 use mathlib.Core.Path.{_≡_, refl, sym, ap, _∙_}
@@ -9,11 +9,10 @@ use native.Mathlib.Decide.{ℕ-discrete}
 use native.Mathlib.Omega.{arith}
 use lib.Dec.{eqb}
 use borrow.Author.Tests.{eq-eqb, ne-eqb}
-use Rattle.table.specs.Limits.{WellFormed}
-use Rattle.table.specs.Table.{Table, linkCount}
-use Rattle.ways.specs.Model.{IsLink, from, to, num, den}
-use Rattle.ways.specs.Ways.{Step, Way, stay, walk, above, below, Agree}
-use Rattle.ways.specs.Weights.{Proportional}
+use Rattle.table.specs.WellFormed.{WellFormed}
+use Rattle.specification.specs.Table.{Table, linkCount, IsLink, from, to, num, den}
+use Rattle.specification.specs.Ratios.{Step, Way, stay, walk, above, below, Proportional}
+use Rattle.ways.specs.Agree.{Agree}
 use Rattle.ways.specs.WayLaws.{cond-positive, reversed, join, reverse, above-append, below-append, above-reversed, below-reversed, above-positive}
 
 -- a way from p to q along which w has the ratio of the way

@@ -1,11 +1,10 @@
--- Labels: for each port the lowest port of its component. Assumes nothing.
+-- Labels: for each port the lowest port of its component.
 use Prim.Native.Nat.{ℕ, _≤_, _<_}
 use mathlib.Core.Path.{_≡_}
 use mathlib.Core.List.{List}
 use lib.ListN.{length, getD}
-use Rattle.table.specs.Table.{Table, portCount}
-use Rattle.ways.specs.Model.{IsPort}
-use Rattle.ways.specs.Ways.{Component}
+use Rattle.specification.specs.Table.{Table, portCount, IsPort}
+use Rattle.specification.specs.Ratios.{Component}
 
 pub record Components (t : Table) (labels : List ℕ) : Type 0 where
   pub long : length labels ≡ 64

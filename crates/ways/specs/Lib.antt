@@ -1,8 +1,6 @@
--- Ways through links with direction ignored: components, agreement of ratios, and weights, by document 01's definitions.
-pub mod Model
-pub mod Ways
+-- Laws of ways, components and weights, and what labels and agreement are.
 pub mod WayLaws
-pub mod Weights
+pub mod Agree
 pub mod WeightLaws
 pub mod AgreeLaws
 pub mod Labels

@@ -1,14 +1,13 @@
--- What a link, and a pass over the links, do to labels. Assumes nothing.
+-- What a link, and a pass over the links, do to labels.
 use Prim.Native.Nat.{ℕ, _≤_, _<_}
 use mathlib.Core.Bool.{Bool, true, false}
 use mathlib.Core.Path.{_≡_}
 use mathlib.Core.Logic.{_⊎_}
 use mathlib.Core.List.{List}
 use lib.ListN.{length, getD, set}
-use Rattle.table.specs.Table.{Table, linkCount}
-use Rattle.rounds.specs.Lists.{sum}
-use Rattle.ways.specs.Model.{from, to}
-use Rattle.ways.specs.Ways.{Joined}
+use Rattle.specification.specs.Table.{Table, linkCount, from, to}
+use Rattle.numbers.specs.Lists.{sum}
+use Rattle.specification.specs.Ratios.{Joined}
 
 -- the numbers below n have themselves as labels
 pub record Own (n : ℕ) (l : List ℕ) : Type 0 where

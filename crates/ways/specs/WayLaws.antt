@@ -1,14 +1,13 @@
--- Laws of ways: joined, reversed, their ratios and components. Assumes nothing.
+-- Laws of ways: joined, reversed, their ratios and components.
 use Prim.Native.Nat.{ℕ, _*_, _<_}
 use mathlib.Core.Bool.{Bool, true, false, cond, not}
 use mathlib.Core.Path.{_≡_, refl, ap}
 use mathlib.Core.List.{List, [], _∷_, _++_}
 use native.Mathlib.Nat.{le-antisymm, mul-pos}
 use native.Mathlib.Omega.{arith}
-use Rattle.table.specs.Limits.{WellFormed}
-use Rattle.table.specs.Table.{Table}
-use Rattle.ways.specs.Model.{IsPort, IsLink, from, to, num, den}
-use Rattle.ways.specs.Ways.{Step, leaves, Way, stay, walk, above, below, Joined, Component}
+use Rattle.table.specs.WellFormed.{WellFormed}
+use Rattle.specification.specs.Table.{Table, IsPort, IsLink, from, to, num, den}
+use Rattle.specification.specs.Ratios.{Step, leaves, Way, stay, walk, above, below, Joined, Component}
 
 -- the same link, walked the other way round
 abbrev pub turned : Step → Step

@@ -1,20 +1,20 @@
--- Laws of proportional weights: their ratios along ways, and when they are the smallest. Assumes nothing.
+-- Laws of proportional weights: their ratios along ways, and when they are the smallest.
 use Prim.Native.Nat.{ℕ, _*_, _≤_, _<_}
 use mathlib.Core.Bool.{Bool, true, false, cond}
 use mathlib.Core.Path.{_≡_, refl, sym, ap}
 use mathlib.Core.List.{List, _∷_, map, List·Memᴰ·head as here, List·Memᴰ·tail as there}
 use native.Mathlib.Nat.{le-antisymm, eq-of-mul-eq-mul-left, eq-of-mul-eq-mul-right, le-mul-of-pos-right}
 use native.Mathlib.Omega.{arith}
-use Rattle.fraction.specs.Divides.{Divides, divides-trans}
-use Rattle.fraction.specs.Gcd.{coprime-sym, gauss}
-use Rattle.fraction.specs.Prime.{IsPrime, least-divisor, least-divisor-prime}
+use Rattle.numbers.specs.Divisors.{Divides}
+use Rattle.numbers.specs.DivisorLaws.{divides-trans}
+use Rattle.numbers.specs.Gcd.{coprime-sym, gauss}
+use Rattle.numbers.specs.Prime.{IsPrime, least-divisor, least-divisor-prime}
 use Rattle.fraction.specs.Lowest.{lowestTerms, lowest-is, lowest-above-zero}
-use Rattle.rounds.specs.Lists.{_∈_}
-use Rattle.table.specs.Limits.{WellFormed}
-use Rattle.table.specs.Table.{Table}
-use Rattle.ways.specs.Model.{IsPort, IsLink, from, to, num, den}
-use Rattle.ways.specs.Ways.{Step, leaves, Way, stay, walk, above, below, Agree, Joined}
-use Rattle.ways.specs.Weights.{Proportional, Weights}
+use Rattle.numbers.specs.Lists.{_∈_}
+use Rattle.table.specs.WellFormed.{WellFormed}
+use Rattle.specification.specs.Table.{Table, IsPort, IsLink, from, to, num, den}
+use Rattle.specification.specs.Ratios.{Step, leaves, Way, stay, walk, above, below, Joined, Proportional, Weights}
+use Rattle.ways.specs.Agree.{Agree}
 use Rattle.ways.specs.WayLaws.{above-positive, step-port}
 
 -- ---- along ways

@@ -1,6 +1,6 @@
 // The components of a table.
 ghost use lib.ListN.{length};
-ghost use Rattle.table.specs.Limits.{WellFormed};
+ghost use Rattle.table.specs.WellFormed.{WellFormed};
 ghost use Rattle.table.specs.Slices.{linksOf, tableOf};
 ghost use Rattle.ways.specs.Labels.{Components};
 ghost use Rattle.ways.specs.Passes.{Own, Both, Levelled, Sound, Passed};

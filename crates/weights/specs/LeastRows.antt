@@ -1,12 +1,11 @@
--- For each component the least exponent of each prime among its ports' rows. Assumes nothing.
+-- For each component the least exponent of each prime among its ports' rows.
 use Prim.Native.Nat.{ℕ, _<_}
 use mathlib.Core.Path.{_≡_}
 use mathlib.Core.List.{List}
 use lib.ListN.{length, getD}
 use Rattle.exponents.specs.Row.{Within}
-use Rattle.table.specs.Limits.{WellFormed}
-use Rattle.table.specs.Table.{Table}
-use Rattle.ways.specs.Model.{IsPort}
+use Rattle.table.specs.WellFormed.{WellFormed}
+use Rattle.specification.specs.Table.{Table, IsPort}
 use Rattle.ways.specs.Labels.{Components}
 use Rattle.forest.specs.PortRows.{rowOf}
 

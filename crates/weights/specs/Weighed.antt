@@ -1,20 +1,15 @@
--- What working out the weights asks and ends with. Assumes nothing.
+-- What working out the weights asks and ends with.
 use Prim.Native.Nat.{ℕ, _≤_, _<_}
 use mathlib.Core.Path.{_≡_}
 use mathlib.Core.Bool.{true, false}
 use mathlib.Core.List.{List}
 use lib.ListN.{getD, length}
-use Rattle.table.specs.Limits.{WellFormed}
-use Rattle.table.specs.Table.{Table, portCount}
-use Rattle.ways.specs.Model.{IsPort, IsLink}
-use Rattle.ways.specs.Weights.{Weights}
+use Rattle.table.specs.WellFormed.{WellFormed}
+use Rattle.specification.specs.Table.{Table, portCount, IsPort, IsLink}
+use Rattle.specification.specs.Ratios.{Weights, mostWeight, Overweight}
 use Rattle.ways.specs.Labels.{Components}
 use Rattle.forest.specs.PortRows.{PortRows, Fits}
 use Rattle.weights.specs.declared.weights.Weighed.{Weighed}
-
--- the most of a weight
-abbrev pub mostWeight : ℕ
-mostWeight = 10000
 
 -- rows that fit every link
 pub record Weighing (t : Table) (labels : List ℕ) (rows : List (List ℕ)) : Type 0 where
@@ -22,14 +17,6 @@ pub record Weighing (t : Table) (labels : List ℕ) (rows : List (List ℕ)) : T
   pub components : Components t labels
   pub port-rows : PortRows rows
   pub fits : (k : ℕ) → IsLink t k → Fits t rows k
-
--- number 14: some weight passes 10,000
-pub record Overweight (t : Table) : Type 0 where
-  pub w : ℕ → ℕ
-  pub weights : Weights t w
-  pub at : ℕ
-  pub a-port : IsPort t at
-  pub passes : mostWeight < w at
 
 -- the weights, none above 10,000, and 0 past the ports
 pub record HasWeights (t : Table) (weights : List ℕ) : Type 0 where

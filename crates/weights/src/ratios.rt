@@ -1,11 +1,11 @@
 // The components, ratios and weights of a table: numbers 13 and 14.
 ghost use Rattle.table.specs.Slices.{tableOf};
-ghost use Rattle.table.specs.Limits.{WellFormed};
+ghost use Rattle.table.specs.WellFormed.{WellFormed};
 ghost use Prim.Native.Nat.{_≤_};
 ghost use mathlib.Core.Path.{_≡_};
 ghost use lib.ListN.{length};
 ghost use Rattle.ways.specs.Labels.{Components};
-ghost use Rattle.forest.specs.PortRows.{MostPart};
+ghost use Rattle.forest.specs.PortRows.{PartsAtMost};
 ghost use Rattle.weights.specs.Ratios.{numberOf, IsRatios};
 use crate::weights;
 use exponents::divisors;
@@ -24,7 +24,7 @@ pub enum Agreement {
     // So many steps of a loop disagree: 13.
     Disagreeing(usize),
     // Some weight passes 10,000: 14.
-    Passing,
+    OverLimit,
 }
 
 // Document 01's number for it.
@@ -34,7 +34,7 @@ pub fn number_of(agreement: Agreement) -> u64
     match agreement {
         Agreement::Agreeing => 0,
         Agreement::Disagreeing(_) => 13,
-        Agreement::Passing => 14,
+        Agreement::OverLimit => 14,
     }
 }
 
@@ -51,7 +51,7 @@ pub fn ratios_of(ports: &[u32], links: &[u32], numbers: &mut [u64]) -> Ratios
     ensures { λ r. ⌜ IsRatios (tableOf (now (ports .entry)) (now (links .entry))) r (now (numbers .entry)) (now (numbers .exit)) ⌝ }
 {
     let labels = components::components(ports, links);
-    let most = parts::most_part(ports, links);
+    let most = parts::greatest_part(ports, links);
     if most == 0 {
         let weights = weights::ones(ports::count(ports));
         return Ratios {
@@ -73,7 +73,7 @@ fn by_rows(
 ) -> Ratios
     requires { ⌜ WellFormed (tableOf (now ports) (now links)) ⌝ }
     requires { ⌜ Components (tableOf (now ports) (now links)) labels ⌝ }
-    requires { ⌜ MostPart (tableOf (now ports) (now links)) most ⌝ }
+    requires { ⌜ PartsAtMost (tableOf (now ports) (now links)) most ⌝ }
     requires { ⌜ 128 ≤ length (now numbers) ⌝ }
     ensures { λ r. ⌜ IsRatios (tableOf (now (ports .entry)) (now (links .entry))) r (now (numbers .entry)) (now (numbers .exit)) ⌝ }
 {
@@ -112,7 +112,7 @@ fn by_rows(
         }
     } else {
         Ratios {
-            agreement: Agreement::Passing,
+            agreement: Agreement::OverLimit,
             labels,
             weights,
         }

@@ -8,6 +8,8 @@ ghost use Rattle.weights.specs.Weighed.{Weighing, Ones, IsWeighed};
 use exponents::primes;
 use exponents::product;
 use exponents::row;
+use exponents::row::Row;
+use specification::limits;
 use table::ports;
 
 // Whether no weight passes 10,000, and then the weights.
@@ -21,7 +23,7 @@ pub fn weigh(
     ports: &[u32],
     links: &[u32],
     labels: &[usize; 64],
-    rows: &[[u16; 168]; 64],
+    rows: &[Row; 64],
     most: u64,
 ) -> Weighed
     requires { ⌜ Weighing (tableOf (now ports) (now links)) (now labels) (now rows) ⌝ }
@@ -36,7 +38,7 @@ pub fn weigh(
     while p < count {
         let c = labels[p];
         let w = product::quotient_within(rows, p, &least, c, most, &all);
-        if 10000 < w {
+        if limits::WEIGHT < w {
             return Weighed {
                 within: false,
                 weights,
@@ -66,12 +68,7 @@ pub fn ones(ports: usize) -> [u64; 64]
 }
 
 // For each component, at its lowest port, the least exponent of each prime among its ports' rows.
-fn least_rows(
-    ports: &[u32],
-    links: &[u32],
-    labels: &[usize; 64],
-    rows: &[[u16; 168]; 64],
-) -> [[u16; 168]; 64]
+fn least_rows(ports: &[u32], links: &[u32], labels: &[usize; 64], rows: &[Row; 64]) -> [Row; 64]
     requires { ⌜ LabelledRows (tableOf (now ports) (now links)) (now labels) (now rows) ⌝ }
     ensures { λ r. ⌜ LeastRows (tableOf (now (ports .entry)) (now (links .entry))) (now (labels .entry)) (now (rows .entry)) (length (portsOf (now (ports .entry)))) r ⌝ }
 {

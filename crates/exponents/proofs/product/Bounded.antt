@@ -1,4 +1,4 @@
--- A product that is multiplied out up to a bound. Assumes nothing.
+-- A product that is multiplied out up to a bound.
 use Prim.Native.Nat.{ℕ, zero, suc, _+_, _*_, _-_, _^_, _≤_, _<_, min}
 use mathlib.Core.Path.{_≡_, refl, sym, ap, _∙_}
 use mathlib.Core.List.{List}
@@ -7,7 +7,7 @@ use native.Mathlib.Numerals.{add-one}
 use native.Mathlib.Decide.{decLe}
 use native.Mathlib.Omega.{arith}
 use lib.ListN.{getD}
-use Rattle.fraction.specs.Exponents.{powers}
+use Rattle.numbers.specs.Exponents.{powers}
 use Rattle.exponents.specs.Primes.{primes, primeAt, listed, distinct-primes, primes-ascend}
 use Rattle.exponents.specs.Product.{Factors}
 use Rattle.exponents.specs.Powers.{powers-grow}

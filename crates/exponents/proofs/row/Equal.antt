@@ -1,4 +1,4 @@
--- Comparing two rows by counting the places that differ. Assumes nothing.
+-- Comparing two rows by counting the places that differ.
 use Prim.Native.Nat.{ℕ, _+_, _≤_, _<_}
 use mathlib.Core.Path.{_≡_, sym, ap, _∙_}
 use mathlib.Core.Logic.{_≢_}

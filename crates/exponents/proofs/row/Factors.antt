@@ -1,4 +1,4 @@
--- Multiplying and dividing a row by a number, one prime factor after the other. Assumes nothing.
+-- Multiplying and dividing a row by a number, one prime factor after the other.
 use Prim.Native.Nat.{ℕ, suc, _+_, _*_, _-_, _/_, _^_, _≤_, _<_}
 use mathlib.Core.Path.{_≡_, refl, sym, ap, _∙_}
 use mathlib.Core.List.{List}

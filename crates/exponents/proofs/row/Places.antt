@@ -1,4 +1,4 @@
--- Storing into a row, one place after the other. Assumes nothing.
+-- Storing into a row, one place after the other.
 use Prim.Native.Nat.{ℕ, _+_, _≤_, _<_, min}
 use mathlib.Core.Path.{_≡_, refl, sym, ap, _∙_}
 use mathlib.Core.List.{List, []}

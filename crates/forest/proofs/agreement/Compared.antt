@@ -1,4 +1,4 @@
--- Two rows are equal exactly where the numbers that they stand for are. Assumes nothing.
+-- Two rows are equal exactly where the numbers that they stand for are.
 use Prim.Native.Nat.{ℕ, _*_, _<_}
 use mathlib.Core.Path.{_≡_, sym, ap, ap₂, _∙_}
 use mathlib.Core.Bool.{Bool}
@@ -8,8 +8,8 @@ use native.Mathlib.Omega.{arith}
 use lib.ListN.{length}
 use Rattle.exponents.specs.Row.{rowValue, RoomToMultiply, RoomToDivide, Scaled, Same, RowAt}
 use Rattle.exponents.specs.RowLaws.{row-unique}
-use Rattle.table.specs.Limits.{PartFits, LinkFits}
-use Rattle.table.specs.declared.Link.{Link}
+use Rattle.table.specs.WellFormed.{PartFits, LinkFits}
+use Rattle.specification.specs.declared.Link.{Link}
 use Rattle.forest.specs.PortRows.{rowOf, valueOf, PortRows}
 use Rattle.forest.specs.Agreement.{FitsRows}
 

@@ -1,4 +1,4 @@
--- Rows that fit a link fit those parallel to it. Assumes nothing.
+-- Rows that fit a link fit those parallel to it.
 use Prim.Native.Nat.{ℕ, _*_, _<_}
 use mathlib.Core.Path.{_≡_, refl, sym, ap, _∙_}
 use mathlib.Core.Logic.{_≢_}
@@ -10,8 +10,8 @@ use borrow.Author.Tests.{eqb-true, eq-eqb, ne-eqb}
 use lib.Dec.{eqb}
 use mir.Syntax.{w64}
 use mir.Val.{Fits}
-use Rattle.table.specs.Limits.{PartFits, LinkFits}
-use Rattle.table.specs.declared.Link.{Link}
+use Rattle.table.specs.WellFormed.{PartFits, LinkFits}
+use Rattle.specification.specs.declared.Link.{Link}
 use Rattle.forest.specs.PortRows.{valueOf}
 use Rattle.forest.specs.Agreement.{FitsRows, isParallel, KnownToFit}
 

@@ -1,13 +1,13 @@
--- What a turn of the scan over the links keeps. Assumes nothing.
+-- What a turn of the scan over the links keeps.
 use Prim.Native.Nat.{ℕ, _+_, _≤_, _<_}
 use mathlib.Core.Path.{_≡_}
 use mathlib.Core.Bool.{Bool, true, false}
 use mathlib.Core.List.{List}
 use native.Mathlib.Omega.{arith}
 use borrow.Author.Count.{below-none, below-more}
-use Rattle.table.specs.Limits.{WellFormed, LinkFits}
-use Rattle.table.specs.Table.{Table, linkCount, link}
-use Rattle.table.specs.declared.Link.{Link}
+use Rattle.table.specs.WellFormed.{WellFormed, LinkFits}
+use Rattle.specification.specs.Table.{Table, linkCount, link}
+use Rattle.specification.specs.declared.Link.{Link}
 use Rattle.forest.specs.PortRows.{Fits}
 use Rattle.forest.specs.Agreement.{FitsRows, FirstConflict}
 

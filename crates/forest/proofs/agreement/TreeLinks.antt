@@ -1,4 +1,4 @@
--- The link over which an end of a link was reached. Assumes nothing.
+-- The link over which an end of a link was reached.
 use Prim.Native.Nat.{ℕ, _<_}
 use mathlib.Core.Path.{_≡_, sym, ap, _∙_}
 use mathlib.Core.Logic.{_≢_, _⊎_, inl, inr, ⊎-elim}
@@ -9,10 +9,9 @@ use borrow.Author.Tests.{eqb-false, eq-eqb, ne-eqb}
 use borrow.Table.Steps.{cases}
 use lib.Dec.{eqb, ltb}
 use lib.ListN.{getD}
-use Rattle.table.specs.Limits.{WellFormed}
-use Rattle.table.specs.Table.{Table, linkCount, link}
-use Rattle.table.specs.declared.Link.{Link}
-use Rattle.ways.specs.Model.{IsPort}
+use Rattle.table.specs.WellFormed.{WellFormed}
+use Rattle.specification.specs.Table.{Table, linkCount, link, IsPort}
+use Rattle.specification.specs.declared.Link.{Link}
 use Rattle.forest.specs.PortRows.{OverForest}
 use Rattle.forest.specs.Agreement.{laterEnd, treeLink, KnownToFit}
 use Rattle.forest.specs.declared.agreement.Over.{Over}

@@ -1,4 +1,4 @@
--- Numbers copied one by one: none, one more, and all. Assumes nothing.
+-- Numbers copied one by one: none, one more, and all.
 use Prim.Native.Nat.{ℕ, _+_, _≤_, _<_}
 use mathlib.Core.Path.{_≡_, refl, _∙_}
 use mathlib.Core.Logic.{⊎-elim}
@@ -6,7 +6,7 @@ use mathlib.Core.List.{List}
 use native.Mathlib.Omega.{arith}
 use lib.ListN.{length, getD, set, length-set}
 use lib.Seq.{getD-set-same, getD-set-other}
-use Rattle.rounds.specs.Lists.{lt-or-le}
+use Rattle.numbers.specs.ListLaws.{lt-or-le}
 use Rattle.forest.specs.StepNumbers.{Copied}
 
 pub copied-none : (down xs : List ℕ) (first next : ℕ) → first ≤ 128 → Copied down xs xs first next first next

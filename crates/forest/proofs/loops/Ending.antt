@@ -1,11 +1,11 @@
--- The steps up and, copied behind them, the steps down are the loop. Assumes nothing.
+-- The steps up and, copied behind them, the steps down are the loop.
 use Prim.Native.Nat.{ℕ, suc, _+_, _*_, _/_, _<_}
 use mathlib.Core.Path.{_≡_}
 use mathlib.Core.List.{List, _∷_, _++_}
 use native.Mathlib.Omega.{arith}
 use lib.ListN.{length, length-append}
-use Rattle.table.specs.Table.{Table}
-use Rattle.ways.specs.Ways.{Step}
+use Rattle.specification.specs.Table.{Table}
+use Rattle.specification.specs.Ratios.{Step}
 use Rattle.ways.specs.WayLaws.{join}
 use Rattle.forest.specs.Loop.{Closing, Closed, stepsFrom}
 use Rattle.forest.specs.StepNumbers.{Stands, CopyRoom, Copied}

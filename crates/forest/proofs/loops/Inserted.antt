@@ -1,10 +1,10 @@
--- A step inserted into a list of steps: what a function of the steps gives. Assumes nothing.
+-- A step inserted into a list of steps: what a function of the steps gives.
 use Prim.Native.Nat.{ℕ}
 use mathlib.Core.Path.{_≡_, sym}
 use mathlib.Core.Logic.{_⊎_, inr, ⊎-elim, ⊎-map}
 use mathlib.Core.List.{List, [], _∷_, _++_, map, List·Memᴰ·head as here, List·Memᴰ·tail as there, List·Memᴰ·cases-cons as cases-cons}
-use Rattle.rounds.specs.Lists.{_∈_, Distinct, more}
-use Rattle.ways.specs.Ways.{Step}
+use Rattle.numbers.specs.Lists.{_∈_, Distinct, more}
+use Rattle.specification.specs.Ratios.{Step}
 
 module _ (f : Step → ℕ) (s : Step) (down : List Step) where
   pub inserted : (up : List Step) {x : ℕ} → x ∈ map f (up ++ s ∷ down) → (x ≡ f s) ⊎ (x ∈ map f (up ++ down))

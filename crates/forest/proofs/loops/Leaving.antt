@@ -1,20 +1,20 @@
--- A port that the climb leaves over its link: the link is another than all before. Assumes nothing.
+-- A port that the climb leaves over its link: the link is another than all before.
 use Prim.Native.Nat.{ℕ, _<_}
 use mathlib.Core.Path.{_≡_, sym, ap, _∙_}
 use mathlib.Core.Logic.{_⊎_, inl, inr, _≢_, ⊎-elim}
 use mathlib.Core.List.{List, _∷_, _++_, map, List·Memᴰ·cases-cons as cases-cons}
 use native.Mathlib.Omega.{arith}
 use lib.ListN.{getD}
-use Rattle.table.specs.Table.{Table}
-use Rattle.rounds.specs.Lists.{_∈_, Distinct}
-use Rattle.ways.specs.Ways.{Step}
-use Rattle.forest.specs.Forest.{Ends, Reached}
+use Rattle.specification.specs.Table.{Table}
+use Rattle.numbers.specs.Lists.{_∈_, Distinct}
+use Rattle.specification.specs.Ratios.{Step}
+use Rattle.forest.specs.Forest.{HasEnds, Reached}
 use Rattle.forest.specs.Loop.{Closing}
 use Rattle.forest.specs.Climb.{along, Behind, Over, Climb}
 use Rattle.forest.proofs.loops.Inserted.{inserted, distinct-inserted}
 
 -- an end of a link is one of its two ends
-one-of : (t : Table) (l : ℕ) {p p′ q q′ : ℕ} → Ends t l p p′ → Ends t l q q′ → (q ≡ p) ⊎ (q ≡ p′)
+one-of : (t : Table) (l : ℕ) {p p′ q q′ : ℕ} → HasEnds t l p p′ → HasEnds t l q q′ → (q ≡ p) ⊎ (q ≡ p′)
 one-of t l (inl e) (inl f) = inl (sym (f .0) ∙ e .0)
 one-of t l (inl e) (inr f) = inr (sym (f .0) ∙ e .1)
 one-of t l (inr e) (inl f) = inr (sym (f .0) ∙ e .1)
@@ -24,7 +24,7 @@ links-differ : {t : Table} {labels reach via : List ℕ} {p q : ℕ} → Reached
     → getD reach p 0 < getD reach q 0
     → getD via p 0 ≢ getD via q 0
 links-differ {t} {reach = reach} {via = via} {p = p} {q = q} r s later e =
-    let ends : Ends t (getD via p 0) q (s .parent) = rw e (s .ends) in
+    let ends : HasEnds t (getD via p 0) q (s .parent) = rw e (s .ends) in
     ⊎-elim
     (λ f. omega (arith, ap (λ (x : ℕ). getD reach x 0) f))
     (λ f. omega (arith, ap (λ (x : ℕ). getD reach x 0) f, r .earlier))

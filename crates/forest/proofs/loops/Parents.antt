@@ -1,13 +1,12 @@
--- The link over which a port was reached leads to its parent. Assumes nothing.
+-- The link over which a port was reached leads to its parent.
 use Prim.Native.Nat.{ℕ, _≤_}
 use mathlib.Core.Path.{_≡_, refl, sym, ap, _∙_}
 use mathlib.Core.Logic.{_≢_, ⊎-elim}
 use mathlib.Core.List.{List}
 use native.Mathlib.Omega.{arith}
 use lib.ListN.{getD}
-use Rattle.table.specs.Table.{Table}
-use Rattle.ways.specs.Model.{from, to}
-use Rattle.ways.specs.Ways.{leaves, comes}
+use Rattle.specification.specs.Table.{Table, from, to}
+use Rattle.specification.specs.Ratios.{leaves, comes}
 use Rattle.forest.specs.StepNumbers.{stepOf}
 use Rattle.forest.specs.Climb.{Climbable, Parent}
 

@@ -1,4 +1,4 @@
--- Numbers of steps that stand in a list: one step more, and copied. Assumes nothing.
+-- Numbers of steps that stand in a list: one step more, and copied.
 use Prim.Native.Nat.{ℕ, zero, suc, _+_, _*_, _≤_, _<_}
 use mathlib.Core.Path.{_≡_, refl, _∙_}
 use mathlib.Core.Logic.{_≢_}
@@ -6,7 +6,7 @@ use mathlib.Core.List.{List, [], _∷_, _++_}
 use native.Mathlib.Omega.{arith}
 use lib.ListN.{length, getD, set, length-set}
 use lib.Seq.{getD-set-same, getD-set-other}
-use Rattle.ways.specs.Ways.{Step}
+use Rattle.specification.specs.Ratios.{Step}
 use Rattle.forest.specs.Loop.{stepsFrom}
 use Rattle.forest.specs.StepNumbers.{stepOf, Put, Stands, none, more}
 

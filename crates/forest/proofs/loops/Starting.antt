@@ -1,14 +1,13 @@
--- The climb over the forest at the start, and which of its two ends was reached over a link. Assumes nothing.
+-- The climb over the forest at the start, and which of its two ends was reached over a link.
 use Prim.Native.Nat.{ℕ, _<_}
 use mathlib.Core.Path.{_≡_, sym, ap, _∙_}
 use mathlib.Core.Logic.{inl, _≢_}
 use mathlib.Core.List.{List, [], List·Memᴰ·eq-of-singleton as only, List·Memᴰ·not-nil as not-nil}
 use native.Mathlib.Omega.{arith}
 use lib.ListN.{getD}
-use Rattle.table.specs.Table.{Table}
-use Rattle.rounds.specs.Lists.{none, more}
-use Rattle.ways.specs.Model.{IsPort, from, to}
-use Rattle.ways.specs.Ways.{stay, walk}
+use Rattle.specification.specs.Table.{Table, IsPort, from, to}
+use Rattle.numbers.specs.Lists.{none, more}
+use Rattle.specification.specs.Ratios.{stay, walk}
 use Rattle.ways.specs.WayLaws.{linked, joined-component, component-unique}
 use Rattle.forest.specs.Loop.{Closing}
 use Rattle.forest.specs.Climb.{along, Climbable, Climb}

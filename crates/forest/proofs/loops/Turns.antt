@@ -1,4 +1,4 @@
--- One turn of the climb over the forest, from either end. Assumes nothing.
+-- One turn of the climb over the forest, from either end.
 use Prim.Native.Nat.{ℕ, zero, suc, _-_, _≤_, _<_}
 use mathlib.Core.Path.{_≡_, refl, sym, ap, subst, _∙_}
 use mathlib.Core.Logic.{_⊎_, inl, inr, ⊎-elim}
@@ -6,10 +6,9 @@ use mathlib.Core.List.{List, [], _∷_, _++_, map}
 use native.Mathlib.Omega.{arith}
 use lib.ListN.{getD, length-append}
 use lib.Seq.{append-snoc}
-use Rattle.table.specs.Table.{Table}
-use Rattle.rounds.specs.Lists.{_∈_, Distinct}
-use Rattle.ways.specs.Model.{IsLink}
-use Rattle.ways.specs.Ways.{Step, Way, stay, walk, leaves, comes}
+use Rattle.specification.specs.Table.{Table, IsLink}
+use Rattle.numbers.specs.Lists.{_∈_, Distinct}
+use Rattle.specification.specs.Ratios.{Step, Way, stay, walk, leaves, comes}
 use Rattle.ways.specs.WayLaws.{join}
 use Rattle.forest.specs.Loop.{Closing}
 use Rattle.forest.specs.StepNumbers.{stepOf}

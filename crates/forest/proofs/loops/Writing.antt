@@ -1,12 +1,11 @@
--- The climb with the numbers of its steps: at the start, one turn from either end, and what each turn asks. Assumes nothing.
+-- The climb with the numbers of its steps: at the start, one turn from either end, and what each turn asks.
 use Prim.Native.Nat.{ℕ, _+_, _-_, _≤_, _<_}
 use mathlib.Core.Path.{_≡_, refl, sym, _∙_}
 use mathlib.Core.Logic.{_≢_}
 use mathlib.Core.List.{List, [], _∷_, _++_}
 use native.Mathlib.Omega.{arith}
 use lib.ListN.{length, getD, length-append}
-use Rattle.table.specs.Table.{Table}
-use Rattle.ways.specs.Model.{from, to}
+use Rattle.specification.specs.Table.{Table, from, to}
 use Rattle.forest.specs.Loop.{Closing}
 use Rattle.forest.specs.StepNumbers.{stepOf, StepRoom, Put, none}
 use Rattle.forest.specs.Climb.{Climbable, Parent, DownRoom, Climbing, Met}

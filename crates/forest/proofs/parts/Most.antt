@@ -1,12 +1,11 @@
--- What a turn of the scan for the greatest part keeps. Assumes nothing.
+-- What a turn of the scan for the greatest part keeps.
 use Prim.Native.Nat.{ℕ, _+_, _≤_, _<_, max}
 use mathlib.Core.Path.{_≡_, refl}
 use mathlib.Core.Logic.{_≢_}
 use native.Mathlib.Nat.{le-antisymm}
 use native.Mathlib.Numerals.{add-one}
 use native.Mathlib.Omega.{arith}
-use Rattle.table.specs.Table.{Table, linkCount}
-use Rattle.ways.specs.Model.{num, den}
+use Rattle.specification.specs.Table.{Table, linkCount, num, den}
 use Rattle.forest.specs.Parts.{greatestOf, greatestPart, part-one, part-other}
 
 -- m is the greatest part of the links below k

@@ -1,4 +1,4 @@
--- A port reached over a link: the forest with it still spreads. Assumes nothing.
+-- A port reached over a link: the forest with it still spreads.
 use Prim.Native.Nat.{ℕ, _+_, _*_, _≤_, _<_}
 use mathlib.Core.Path.{_≡_, sym, _∙_}
 use mathlib.Core.Logic.{_≢_, ⊎-elim}
@@ -8,11 +8,10 @@ use native.Mathlib.Omega.{arith}
 use lib.ListN.{getD, set, length-set}
 use lib.Seq.{getD-set-same, getD-set-other}
 use Rattle.exponents.specs.Primes.{primeAt}
-use Rattle.table.specs.Table.{Table}
-use Rattle.ways.specs.Model.{IsPort, IsLink, from, to}
-use Rattle.ways.specs.Ways.{Component}
-use Rattle.forest.specs.Forest.{Ends}
-use Rattle.forest.specs.PortRows.{rowOf, valueOf, Fits, Near, MostPart}
+use Rattle.specification.specs.Table.{Table, IsPort, IsLink, from, to}
+use Rattle.specification.specs.Ratios.{Component}
+use Rattle.forest.specs.Forest.{HasEnds}
+use Rattle.forest.specs.PortRows.{rowOf, valueOf, Fits, Near, PartsAtMost}
 use Rattle.forest.specs.Spreading.{PartForest, entered, Child, Spreading, Extended}
 use Rattle.forest.proofs.spanning.Numbers.{numbered-on, number-new, reached-other, reached-kept}
 
@@ -28,7 +27,7 @@ record NeitherEnd (t : Table) (k r : ℕ) : Type 0 where
   source : from t k ≢ r
   target : to t k ≢ r
 
-ends-other : (t : Table) (k p q r : ℕ) → Ends t k p q → p ≢ r → q ≢ r → NeitherEnd t k r
+ends-other : (t : Table) (k p q r : ℕ) → HasEnds t k p q → p ≢ r → q ≢ r → NeitherEnd t k r
 ends-other t k p q r e a b =
     ⊎-elim (λ x. record { source = λ d. a (sym (x .0) ∙ d); target = λ d. b (sym (x .1) ∙ d) })
     (λ x. record { source = λ d. b (sym (x .1) ∙ d); target = λ d. a (sym (x .0) ∙ d) }) e
@@ -39,9 +38,9 @@ pub record LinkEnds (t : Table) (k p q times by : ℕ) : Type 0 where
   pub one : IsPort t p
   pub one-below : p < 64
   pub other-below : q < 64
-  pub ends : Ends t k q p
-  pub times-most : (m : ℕ) → MostPart t m → times ≢ by → times ≤ m
-  pub by-most : (m : ℕ) → MostPart t m → times ≢ by → by ≤ m
+  pub ends : HasEnds t k q p
+  pub times-most : (m : ℕ) → PartsAtMost t m → times ≢ by → times ≤ m
+  pub by-most : (m : ℕ) → PartsAtMost t m → times ≢ by → by ≤ m
   pub fits : (rows : List (List ℕ)) → valueOf rows q * by ≡ valueOf rows p * times → Fits t rows k
 
 module _ {t : Table} {f f′ : PartForest} {rows rows′ : List (List ℕ)} {k p q times by : ℕ} (s : Spreading t f rows) (l : LinkEnds t k p q times by) (x : Extended f rows p q k times by f′ rows′) where
@@ -73,7 +72,7 @@ module _ {t : Table} {f f′ : PartForest} {rows rows′ : List (List ℕ)} {k p
       rw (getD-set-other rows q r (x .row-made .row) [] d, getD-set-other (f .reach) q r (f .count + 1) 0 d) (s .near r h)
 
   -- above every part of a ratio q has the exponents of p
-  up-to-on : {m : ℕ} → MostPart t m → (r i : ℕ) → r < 64 → i < 168 → m < primeAt i → Dec (r ≡ q)
+  up-to-on : {m : ℕ} → PartsAtMost t m → (r i : ℕ) → r < 64 → i < 168 → m < primeAt i → Dec (r ≡ q)
       → getD (rowOf (set rows q (x .row-made .row)) r) i 0 ≡ 1000
   up-to-on {m} most r i h a b (yes e) =
       rw (e, new-row) (x .row-made .above m i (l .times-most m most) (l .by-most m most) a b ∙ s .up-to m most .zero p i (l .one-below) a b)

@@ -1,4 +1,4 @@
--- One link followed from one end to the other, by what is reached. Assumes nothing.
+-- One link followed from one end to the other, by what is reached.
 use Prim.Native.Nat.{ℕ, _*_}
 use mathlib.Core.Path.{_≡_, refl, sym, ap, _∙_}
 use mathlib.Core.Logic.{_≢_, inl, inr}

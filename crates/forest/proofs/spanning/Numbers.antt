@@ -1,4 +1,4 @@
--- The numbers of the reached ports: at most 64, and what one more leaves as it was. Assumes nothing.
+-- The numbers of the reached ports: at most 64, and what one more leaves as it was.
 use Prim.Native.Nat.{ℕ, zero, suc, _+_, _≤_, _<_, min}
 use mathlib.Core.Path.{_≡_, sym, ap, _∙_}
 use mathlib.Core.Logic.{_≢_}
@@ -7,7 +7,8 @@ use native.Mathlib.Decide.{ℕ-discrete}
 use native.Mathlib.Omega.{arith}
 use lib.ListN.{length, getD, set, length-set}
 use lib.Seq.{getD-set-same, getD-set-other}
-use Rattle.rounds.specs.Lists.{sum, sum-bound}
+use Rattle.numbers.specs.Lists.{sum}
+use Rattle.numbers.specs.ListLaws.{sum-bound}
 use Rattle.forest.specs.Spreading.{Numbered}
 
 sum-set : (f : ℕ → ℕ) (l : List ℕ) (i v : ℕ) → i < length l → sum f (set l i v) + f (getD l i 0) ≡ sum f l + f v

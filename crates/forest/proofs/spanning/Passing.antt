@@ -1,4 +1,4 @@
--- A pass over the links that is under way: what the next link asks and does. Assumes nothing.
+-- A pass over the links that is under way: what the next link asks and does.
 use Prim.Native.Nat.{ℕ, _+_, _≤_, _<_}
 use mathlib.Core.Path.{_≡_, refl, sym, ap}
 use mathlib.Core.Logic.{⊎-elim, inl, inr}
@@ -6,9 +6,8 @@ use mathlib.Core.List.{List}
 use native.Mathlib.Nat.{le-refl}
 use native.Mathlib.Omega.{arith}
 use borrow.Author.Count.{below-more}
-use Rattle.table.specs.Limits.{WellFormed, PartFits}
-use Rattle.table.specs.Table.{Table, linkCount}
-use Rattle.ways.specs.Model.{IsLink, from, to, num, den}
+use Rattle.table.specs.WellFormed.{WellFormed, PartFits}
+use Rattle.specification.specs.Table.{Table, linkCount, IsLink, from, to, num, den}
 use Rattle.forest.specs.Spreading.{PartForest, Spreading, Followable, Unchanged, Followed, Closed, Passed}
 use Rattle.forest.proofs.spanning.Numbers.{numbered-few}
 use Rattle.forest.proofs.spanning.Starting.{near-more}

@@ -1,4 +1,4 @@
--- The loop that reaches the lowest port of each component. Assumes nothing.
+-- The loop that reaches the lowest port of each component.
 use Prim.Native.Nat.{ℕ, zero, suc, _+_, _≤_, _<_, min}
 use mathlib.Core.Path.{_≡_, refl, _∙_}
 use mathlib.Core.Logic.{_≢_, ⊎-elim}
@@ -8,7 +8,8 @@ use native.Mathlib.Omega.{arith}
 use borrow.Author.Count.{below-more}
 use lib.ListN.{getD, set, replicate, length-set, length-replicate, getD-replicate, List·getD-eq-default}
 use lib.Seq.{getD-set-other}
-use Rattle.rounds.specs.Lists.{lt-or-le, sum}
+use Rattle.numbers.specs.ListLaws.{lt-or-le}
+use Rattle.numbers.specs.Lists.{sum}
 use Rattle.forest.specs.Spreading.{PartForest, forestOf, Unreached, entered, Rootable, Rooted}
 use Rattle.forest.proofs.spanning.Numbers.{numbered-few, numbered-on, number-new, reached-kept}
 

@@ -1,16 +1,15 @@
--- A forest that no link can extend spans the components. Assumes nothing.
+-- A forest that no link can extend spans the components.
 use Prim.Native.Nat.{ℕ, _≤_, _<_, _-_}
 use mathlib.Core.Bool.{Bool, true, false, cond}
 use mathlib.Core.Logic.{_≢_, ⊎-elim}
 use mathlib.Core.List.{List}
 use native.Mathlib.Omega.{arith}
 use lib.ListN.{getD}
-use Rattle.table.specs.Table.{Table, linkCount}
-use Rattle.ways.specs.Model.{IsPort, IsLink, from, to}
-use Rattle.ways.specs.Ways.{Step, Way, stay, walk, Joined}
+use Rattle.specification.specs.Table.{Table, linkCount, IsPort, IsLink, from, to}
+use Rattle.specification.specs.Ratios.{Step, Way, stay, walk, Joined}
 use Rattle.ways.specs.WayLaws.{linked, joined-sym, joined-component, component-unique}
 use Rattle.ways.specs.Labels.{Components}
-use Rattle.forest.specs.Forest.{Ends, Reached}
+use Rattle.forest.specs.Forest.{HasEnds, Reached}
 use Rattle.forest.specs.PortRows.{Spanned}
 use Rattle.forest.specs.Spreading.{PartForest, Child, Spreading, Closed, Passed}
 use Rattle.forest.proofs.spanning.Numbers.{numbered-few}
@@ -21,7 +20,7 @@ pub passed-less : {t : Table} {n : ℕ} {f f′ : PartForest} {rows : List (List
     → 64 - f′ .count < 64 - f .count
 passed-less p d = omega (arith, numbered-few (p .spreading .numbered), p .grown)
 
-ends-joined : (t : Table) (k p q : ℕ) → IsLink t k → Ends t k p q → Joined t q p
+ends-joined : (t : Table) (k p q : ℕ) → IsLink t k → HasEnds t k p q → Joined t q p
 ends-joined t k p q i e =
     ⊎-elim (λ x. rw (x .0, x .1) at (joined-sym (linked i))) (λ x. rw (x .0, x .1) at (linked i)) e
 

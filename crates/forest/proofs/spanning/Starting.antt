@@ -1,13 +1,12 @@
--- The lowest ports reached and the rows zero: the forest can spread. Assumes nothing.
+-- The lowest ports reached and the rows zero: the forest can spread.
 use Prim.Native.Nat.{ℕ, _≤_, _<_}
 use mathlib.Core.Path.{_≡_, ap, _∙_}
 use mathlib.Core.List.{List, []}
 use native.Mathlib.Omega.{arith}
 use lib.ListN.{getD, replicate, length-replicate, getD-replicate}
-use Rattle.table.specs.Limits.{WellFormed}
-use Rattle.table.specs.Table.{Table, portCount}
-use Rattle.ways.specs.Model.{IsPort}
-use Rattle.ways.specs.Ways.{Component}
+use Rattle.table.specs.WellFormed.{WellFormed}
+use Rattle.specification.specs.Table.{Table, portCount, IsPort}
+use Rattle.specification.specs.Ratios.{Component}
 use Rattle.ways.specs.WayLaws.{component-unique, joined-component, way-port}
 use Rattle.ways.specs.Labels.{Components}
 use Rattle.forest.specs.PortRows.{zeroRow, Near}

@@ -1,4 +1,4 @@
--- Two numbers of two digits in base 2^32, multiplied column by column with carries. Assumes nothing.
+-- Two numbers of two digits in base 2^32, multiplied column by column with carries.
 use Prim.Native.Nat.{ℕ, _+_, _*_, _/_, _%_, _^_, _≤_, _<_}
 use mathlib.Core.Path.{_≡_, ap}
 use native.Mathlib.Nat.{mul-le-mul}

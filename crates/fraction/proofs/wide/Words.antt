@@ -1,4 +1,4 @@
--- Numbers of two words are compared by their high words, and where these are equal by the low. Assumes nothing.
+-- Numbers of two words are compared by their high words, and where these are equal by the low.
 use Prim.Native.Nat.{ℕ, _+_, _*_, _^_, _≤_, _<_}
 use mathlib.Core.Path.{_≡_, sym, _∙_}
 use native.Mathlib.Omega.{arith}

@@ -1,4 +1,4 @@
--- By the sign of the read's result. Assumes nothing.
+-- By the sign of the read's result.
 use Prim.Native.Nat.{ℕ, _+_}
 use mathlib.Core.Path.{_≡_, refl}
 use mathlib.Core.Bool.{true, false, true≢false}

@@ -1,4 +1,4 @@
--- The input stands within the buffer; each read adds to it or is the last. Assumes nothing.
+-- The input stands within the buffer; each read adds to it or is the last.
 use Prim.Native.Nat.{ℕ, _+_, _-_, _≤_, _<_}
 use mathlib.Core.Path.{_≡_, refl}
 use mathlib.Core.Bool.{Bool, true, false, cond}
@@ -43,7 +43,9 @@ read-once-requires : tie.Need-read-once-requires Inv-loop μ-loop
 read-once-requires c κs = search needs
 
 loop-less : tie.Need-loop-less Inv-loop μ-loop
-loop-less c = let loop = c .before .before .before .before .before .before .before in fewer (c .before .before .read-once .ensures .0) (loop .loop .inv .same) (c .before .before .before .before .before .before .loop-test .taken) (omega arith)
+loop-less c =
+    let at-loop-test = c .before .before .before .before .before .before in
+    let loop = at-loop-test .before in fewer (c .before .before .read-once .ensures .0) (loop .loop .inv .same) (at-loop-test .loop-test .taken) (omega arith)
 
 loop-again : tie.Need-loop-again Inv-loop μ-loop
 loop-again c = search needs

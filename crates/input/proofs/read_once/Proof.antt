@@ -1,4 +1,4 @@
--- What one read comes to lies within the buffer. Assumes nothing.
+-- What one read comes to lies within the buffer.
 use native.Mathlib.Omega.{arith}
 use borrow.Author.Needs.{needs}
 use Rattle.input.specs.Input.{read-onward}

@@ -1,4 +1,4 @@
--- A table has at most as many bytes as the space. Assumes nothing.
+-- A table has at most as many bytes as the space.
 use native.Mathlib.Omega.{arith}
 use lib.ListN.{length-take}
 use borrow.Author.Needs.{needs}

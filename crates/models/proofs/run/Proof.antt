@@ -1,4 +1,4 @@
--- The buffers keep their lengths, and the tables left to read fall. Assumes nothing.
+-- The buffers keep their lengths, and the tables left to read fall.
 use mathlib.Core.Path.{_≡_}
 use lib.ListN.{length}
 use borrow.Author.Needs.{needs}

@@ -1,7 +1,7 @@
--- The products of a small delay. Assumes nothing.
+-- The products of a small delay.
 use Prim.Native.Nat.{ℕ, _*_, _≤_}
-use Rattle.table.specs.declared.Ticks.{Ticks}
-use Rattle.table.specs.declared.Events.{Events}
+use Rattle.specification.specs.declared.Ticks.{Ticks}
+use Rattle.specification.specs.declared.Events.{Events}
 use Rattle.period.specs.Delay.{SmallDelay}
 use Rattle.period.specs.PricesLaws.{mostProduct, product-most}
 

@@ -1,4 +1,4 @@
--- Ports whose rate limits are at most a fraction, or less. Assumes nothing.
+-- Ports whose rate limits are at most a fraction, or less.
 use Prim.Native.Nat.{ℕ, _+_, _*_, _≤_, _<_}
 use mathlib.Core.Path.{_≡_, ap}
 use mathlib.Core.List.{List}

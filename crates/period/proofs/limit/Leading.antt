@@ -1,4 +1,4 @@
--- The greatest rate limit of the first ports. Assumes nothing.
+-- The greatest rate limit of the first ports.
 use Prim.Native.Nat.{ℕ, _+_, _*_, _≤_, _<_}
 use mathlib.Core.Path.{_≡_, refl, sym, _∙_}
 use mathlib.Core.Logic.{⊎-elim}
@@ -9,9 +9,10 @@ use lib.ListN.{length, getD}
 use borrow.Author.Tests.{ltb-true, ltb-false}
 use Rattle.fraction.specs.declared.Fraction.{Fraction}
 use Rattle.fraction.specs.Lowest.{lowest-small, lowest-above-zero, lessThan}
-use Rattle.rounds.specs.Lists.{_∈_, lt-or-le, position}
-use Rattle.period.specs.Taken.{member-at}
-use Rattle.period.specs.LimitOf.{HasLimit, limitOf}
+use Rattle.numbers.specs.Lists.{_∈_}
+use Rattle.numbers.specs.ListLaws.{lt-or-le, position}
+use Rattle.numbers.specs.Taken.{member-at}
+use Rattle.period.specs.LimitOf.{limitOf}
 use Rattle.period.specs.Greatest.{Limited, GreatestLimit}
 use Rattle.period.proofs.limit.Below.{Below, Under, limit-lowest, below-limit, below-under}
 
@@ -34,9 +35,6 @@ below-more ports limits i all new j h =
 module _ {ports limits : List ℕ} (s : Limited ports limits) where
   over-at : (i : ℕ) → i < length ports → 0 < getD limits (2 * getD ports i 0 + 1) 0
   over-at i h = s .small .den-some (getD ports i 0) (member-at ports i h)
-
-  pub has-limit : (i : ℕ) → i < length ports → HasLimit limits (getD ports i 0)
-  has-limit i h = record { room = omega (arith, s .low-ports (getD ports i 0) (member-at ports i h)); over = over-at i h }
 
   leading-port : {i port : ℕ} {f : Fraction} → Leading ports limits i port f → port ∈ ports
   leading-port t = rw (t .is) at (member-at ports (t .place) (omega (arith, t .passed, t .within)))

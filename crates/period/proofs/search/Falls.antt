@@ -1,4 +1,4 @@
--- The search ends: fractions with small parts that grow pass only finitely many. Assumes nothing.
+-- The search ends: fractions with small parts that grow pass only finitely many.
 use Prim.Native.Nat.{ℕ, suc, _*_, _-_, _/_, _≤_, _<_}
 use native.Mathlib.Nat.{div-mul-le-self, div-le-self, le-div-iff-mul-le, le-trans, mul-le-mul-right}
 use native.Mathlib.Omega.{arith}

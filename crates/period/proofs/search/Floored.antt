@@ -1,4 +1,4 @@
--- What the search knows of the a/b that it tries: it is a limit, and no smaller one serves. Assumes nothing.
+-- What the search knows of the a/b that it tries: it is a limit, and no smaller one serves.
 use Prim.Native.Nat.{ℕ, _*_, _-_, _≤_, _<_}
 use mathlib.Core.Path.{_≡_, sym, ap}
 use mathlib.Core.Logic.{_⊎_, inl, inr}
@@ -6,15 +6,14 @@ use mathlib.Core.List.{List}
 use native.Mathlib.Omega.{arith}
 use native.Mathlib.Nat.{le-of-mul-le-mul-right, mul-le-mul-right, mul-lt-mul-of-pos-right, lt-of-mul-lt-mul-right, le-trans}
 use lib.ListN.{length}
-use Rattle.fraction.specs.Gcd.{Coprime}
+use Rattle.numbers.specs.Divisors.{Coprime}
 use Rattle.fraction.specs.Lowest.{lowestTerms, IsLowest, lowest-is, lowest-small, lowest-above-zero}
 use Rattle.fraction.specs.declared.Fraction.{Fraction}
-use Rattle.rounds.specs.Lists.{sum}
-use Rattle.rounds.specs.Graph.{Graph, gain, loss, LeastStarts}
-use Rattle.period.specs.Periods.{Serves, RateLimit, CycleLimit, Blocks, Period}
+use Rattle.numbers.specs.Lists.{sum}
+use Rattle.specification.specs.Periods.{Graph, gain, loss, LeastStarts, Serves, RateLimit, CycleLimit, Blocks, Period}
 use Rattle.rounds.specs.Walks.{Among, cycle-bound, PositiveCycle}
 use Rattle.period.specs.Limits.{E⁺, E⁻, D⁺, D⁻, GreaterLimit, falling-limit, limit-below, limit-scaled, serves-meets}
-use Rattle.period.specs.Component.{SmallEdges, mostPart, mostRate}
+use Rattle.period.specs.Component.{SmallEdges, mostAmount, mostRate}
 use Rattle.period.specs.Search.{Shown, cycleOf}
 use Rattle.period.proofs.search.Falls.{left, left-falls}
 use Rattle.period.specs.declared.search.Cycle.{Cycle}
@@ -45,8 +44,8 @@ module _ {g : Graph} {ports : List ℕ} (among : Among g ports) (few : length po
     {limit : Cycle} (f : Floored g period floor limit) {path : List ℕ}
     (c : PositiveCycle g (gain g (period .num) (period .den)) (loss g (period .num) (period .den)) path) where
   -- a sum over the cycle of a part of its edges
-  sum-small : (part : ℕ → ℕ) → ((k : ℕ) → g .IsEdge k → part k ≤ mostPart) → sum part path ≤ mostRate
-  sum-small part h = le-trans (cycle-bound among part mostPart h (c .cycle)) (omega (arith, mul-le-mul-right mostPart few))
+  sum-small : (part : ℕ → ℕ) → ((k : ℕ) → g .IsEdge k → part k ≤ mostAmount) → sum part path ≤ mostRate
+  sum-small part h = le-trans (cycle-bound among part mostAmount h (c .cycle)) (omega (arith, mul-le-mul-right mostAmount few))
 
   -- D below zero: a/b rises to the cycle's lower limit
   module _ (falls : D⁺ g path < D⁻ g path) where

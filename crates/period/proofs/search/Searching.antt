@@ -1,5 +1,5 @@
--- What a turn of the search keeps, and what it ends with. Assumes nothing.
-use Prim.Native.Nat.{ℕ, _+_, _-_, _≤_, _<_}
+-- What a turn of the search keeps, and what it ends with.
+use Prim.Native.Nat.{ℕ, _+_, _*_, _-_, _/_, _≤_, _<_}
 use mathlib.Core.Path.{_≡_, refl, sym, _∙_}
 use mathlib.Core.Bool.{true, false, true≢false}
 use mathlib.Core.List.{List, []}
@@ -8,7 +8,7 @@ use native.Mathlib.Nat.{mul-le-mul-right}
 use lib.ListN.{length, getD, drop, length-take}
 use Rattle.fraction.specs.Lowest.{lowestTerms}
 use Rattle.fraction.specs.declared.Fraction.{Fraction}
-use Rattle.rounds.specs.Graph.{gain, loss, LeastStarts}
+use Rattle.specification.specs.Periods.{gain, loss, LeastStarts}
 use Rattle.rounds.specs.Walks.{PositiveCycle}
 use Rattle.period.specs.Limits.{E⁺, E⁻, D⁺, D⁻, falling-gains, rate-below}
 use Rattle.period.specs.Component.{graphOf, Component, SmallEdges, mostRate}
@@ -20,7 +20,7 @@ use Rattle.period.specs.Prices.{pricesOf}
 use Rattle.period.specs.PricesLaws.{prices-small, prices-enclosed, prices-cycle, prices-settled, cycle-edges}
 use Rattle.period.specs.Greatest.{GreatestLimit}
 use Rattle.period.specs.Sums.{Summing, SumsOf}
-use Rattle.period.specs.Search.{WithinSteps, Room, RoundsRun, mostStart, Ends}
+use Rattle.period.specs.Search.{WithinSteps, RoundsRun, mostStart, SearchResult}
 use Rattle.period.specs.Try.{Trying}
 use Rattle.period.proofs.search.Falls.{left}
 use Rattle.period.proofs.search.Floored.{Floored, floored-next, floored-falls, floored-blocks, floored-period}
@@ -39,25 +39,24 @@ small-edges k = record {
   events-back = k .small-edges .events-back;
 }
 
--- the buffers have room, and a/b is a limit that no smaller one serves
-pub record Searching (ports limits edges rows₀ costs₀ starts₀ rows costs starts : List ℕ) (period : Fraction) (floor : Floor) (limit : Cycle) : Type 0 where
+-- the buffer has room, and a/b is a limit that no smaller one serves
+pub record Searching (ports limits edges numbers work₀ work : List ℕ) (period : Fraction) (floor : Floor) (limit : Cycle) : Type 0 where
   pub component : Component ports limits edges
-  pub room : Room ports edges rows costs starts
-  pub same-rows : length rows ≡ length rows₀
-  pub same-costs : length costs ≡ length costs₀
-  pub unchanged : starts ≡ starts₀
+  pub counted : length edges / 6 ≡ length numbers
+  pub room : 64 * length ports + 64 + 4 * length numbers ≤ length work
+  pub same-length : length work ≡ length work₀
   pub floored : Floored (graphOf ports limits edges) period floor limit
   pub within : WithinSteps limit
 
-pub searching-first : {ports limits edges rows costs starts : List ℕ} {first : Limit} (limit : Cycle) → Component ports limits edges → Room ports edges rows costs starts
+pub searching-first : {ports limits edges numbers work : List ℕ} {first : Limit} (limit : Cycle) → Component ports limits edges → length edges / 6 ≡ length numbers
+    → 64 * length ports + 64 + 4 * length numbers ≤ length work
     → GreatestLimit ports limits first → WithinSteps limit
-    → Searching ports limits edges rows costs starts rows costs starts (first .period) (Rate (first .port)) limit
-searching-first {first = first} limit k r h within = record {
+    → Searching ports limits edges numbers work work (first .period) (Rate (first .port)) limit
+searching-first {first = first} limit k e r h within = record {
   component = k;
+  counted = e;
   room = r;
-  same-rows = refl;
-  same-costs = refl;
-  unchanged = refl;
+  same-length = refl;
   floored = record {
     above-zero = h .above-zero;
     over = h .over;
@@ -71,23 +70,26 @@ searching-first {first = first} limit k r h within = record {
   within = within;
 }
 
-module _ {ports limits edges rows₀ costs₀ starts₀ rows costs starts : List ℕ} {period : Fraction} {floor : Floor} {limit : Cycle}
-    (s : Searching ports limits edges rows₀ costs₀ starts₀ rows costs starts period floor limit) where
-  pub searching-tries : {steps : List ℕ} → length steps ≡ 64 → Trying edges (period .num) (period .den) (length ports) rows costs steps
+module _ {ports limits edges numbers work₀ work : List ℕ} {period : Fraction} {floor : Floor} {limit : Cycle}
+    (s : Searching ports limits edges numbers work₀ work period floor limit) where
+  pub searching-tries : {steps : List ℕ} → length steps ≡ 64 → Trying edges (length numbers) (period .num) (period .den) (length ports) work steps
   searching-tries long = record {
-    pricing = record { small = small-edges (s .component); room = s .room .costs-room; small-a = s .floored .small-num; small-b = s .floored .small-den };
+    counted = s .counted;
+    small-edges = small-edges (s .component);
+    small-a = s .floored .small-num;
+    small-b = s .floored .small-den;
     priced = prices-small (s .component) (s .floored .small-num) (s .floored .small-den);
     enclosed = prices-enclosed (s .component) (period .num) (period .den);
     some = s .component .some-port;
     few = s .component .few-ports;
-    rows-room = s .room .rows-room;
+    work-room = s .room;
     steps-room = omega arith;
   }
 
   -- the rounds stopped: a/b is the period
-  pub searching-settled : {rows′ starts′ : List ℕ} {r : ℕ} (block : Cycle) → Stopped (pricesOf edges (period .num) (period .den)) rows′ (length ports) r → starts′ ≡ row rows′ r
-      → Ends ports limits edges (record { settled = true; period = period; floor = floor; limit = limit; block = block; rounds = r + 1 }) starts₀ starts′
-  searching-settled {rows′} {starts′} {r} block h e = record {
+  pub searching-settled : {work′ : List ℕ} {r : ℕ} (block : Cycle) → Stopped (pricesOf edges (period .num) (period .den)) work′ (length ports) r
+      → SearchResult ports limits edges (record { settled = true; period = period; floor = floor; limit = limit; block = block; rounds = r + 1 }) work′
+  searching-settled {work′} {r} block h = record {
     settled = λ yes. record {
       period = floored-period (s .floored) least;
       shown = s .floored .shown;
@@ -106,16 +108,16 @@ module _ {ports limits edges rows₀ costs₀ starts₀ rows costs starts : List
       priced : Priced cs
       priced = prices-small (s .component) (s .floored .small-num) (s .floored .small-den)
 
-      made : starts′ ≡ startsAfter cs r
-      made = e ∙ h .kept .rows-are r (omega arith)
+      made : row work′ (r + 1 - 1) ≡ startsAfter cs r
+      made = let e : r + 1 - 1 ≡ r = omega arith in rw e (h .kept .rows-are r (omega arith))
 
-      least : LeastStarts (graphOf ports limits edges) (period .num) (period .den) (λ p. getD starts′ p 0)
+      least : LeastStarts (graphOf ports limits edges) (period .num) (period .den) (λ p. getD (row work′ (r + 1 - 1)) p 0)
       least = rw made (prices-settled (s .component) (period .num) (period .den) r priced (h .still))
 
-      small : (p : ℕ) → getD starts′ p 0 ≤ mostStart
+      small : (p : ℕ) → getD (row work′ (r + 1 - 1)) p 0 ≤ mostStart
       small p = rw made (omega (arith, starts-bound cs priced r p, mul-le-mul-right mostCost (h .within), mul-le-mul-right mostCost (s .component .few-ports)))
 
-      run : RoundsRun cs starts′ (length ports) (r + 1)
+      run : RoundsRun cs (row work′ (r + 1 - 1)) (length ports) (r + 1)
       run = record { changing = r; is = omega arith; within = omega (arith, h .within); moved = h .moved; still = h .still; made = made }
 
   -- a cycle that is positive at a/b
@@ -135,9 +137,9 @@ module _ {ports limits edges rows₀ costs₀ starts₀ rows costs starts : List
 
     module _ {sums : Sums} (m : SumsOf edges (edgesOf steps part) sums) where
       -- D zero or more: it blocks
-      pub searching-blocked : length steps ≡ 64 → sums .events .1 ≤ sums .events .0
-          → Ends ports limits edges
-          (record { settled = false; period = period; floor = floor; limit = limit; block = record { steps = steps; part = part }; rounds = length ports }) starts₀ starts
+      pub searching-blocked : {work′ : List ℕ} → length steps ≡ 64 → sums .events .1 ≤ sums .events .0
+          → SearchResult ports limits edges
+          (record { settled = false; period = period; floor = floor; limit = limit; block = record { steps = steps; part = part }; rounds = length ports }) work′
       searching-blocked long rises = record {
         settled = λ yes. absurd (true≢false (sym yes));
         blocked = λ no. record {
@@ -151,7 +153,6 @@ module _ {ports limits edges rows₀ costs₀ starts₀ rows costs starts : List
           limit-within = s .within;
           block-within = searching-within long;
           rounds = refl;
-          unchanged = s .unchanged;
         };
       }
 
@@ -170,14 +171,13 @@ module _ {ports limits edges rows₀ costs₀ starts₀ rows costs starts : List
           pub searching-falls : left mostRate (period′ .num) (period′ .den) < left mostRate (period .num) (period .den)
           searching-falls = floored-falls (s .component .among) (s .component .few-ports) (s .component .small-edges) (s .floored) positive falling lowest-limit
 
-          pub searching-next : {rows′ costs′ : List ℕ} → length steps ≡ 64 → length rows′ ≡ length rows → length costs′ ≡ length costs
-              → Searching ports limits edges rows₀ costs₀ starts₀ rows′ costs′ starts period′ Lower (record { steps = steps; part = part })
-          searching-next long same-rows same-costs = record {
+          pub searching-next : {work′ : List ℕ} → length steps ≡ 64 → length work′ ≡ length work
+              → Searching ports limits edges numbers work₀ work′ period′ Lower (record { steps = steps; part = part })
+          searching-next long same = record {
             component = s .component;
-            room = record { rows-room = omega (arith, s .room .rows-room); costs-room = omega (arith, s .room .costs-room); starts-room = s .room .starts-room };
-            same-rows = same-rows ∙ s .same-rows;
-            same-costs = same-costs ∙ s .same-costs;
-            unchanged = s .unchanged;
+            counted = s .counted;
+            room = omega (arith, s .room);
+            same-length = same ∙ s .same-length;
             floored = floored-next (s .component .among) (s .component .few-ports) (s .component .small-edges) (s .floored) positive falling lowest-limit refl;
             within = searching-within long;
           }

@@ -1,4 +1,4 @@
--- What a turn of a writer's loop leaves to store, and what the stores of a whole record make. Assumes nothing.
+-- What a turn of a writer's loop leaves to store, and what the stores of a whole record make.
 use Prim.Native.Nat.{ℕ, suc, _+_, _*_, _-_, _%_, _/_, _≤_, _<_}
 use mathlib.Core.Path.{_≡_, refl, _∙_}
 use mathlib.Core.List.{List, [], _∷_, _++_}
@@ -6,8 +6,7 @@ use native.Mathlib.Omega.{arith}
 use native.Mathlib.Numerals.{add-one}
 use lib.ListN.{length, set, getD, drop, drop-of-length-le}
 use lib.Seq.{sets, sets-eq, length-sets, drop-cons}
-use Rattle.records.specs.Bytes.{bytes, words}
-use Rattle.records.specs.Answer.{Written}
+use Rattle.specification.specs.Bytes.{bytes, words, Written}
 use Rattle.records.specs.WrittenLaws.{sets-append}
 
 -- where l is now, to store xs at a place is all that is left of storing xs₀ in l₀ at its place

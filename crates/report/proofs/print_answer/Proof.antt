@@ -1,4 +1,4 @@
--- What the analysis writes prints as the text of its answer, for which there is room. Assumes nothing.
+-- What the analysis writes prints as the text of its answer, for which there is room.
 use mathlib.Core.Path.{sym}
 use native.Mathlib.Omega.{arith}
 use lib.ListN.{length-take}

@@ -1,4 +1,4 @@
--- By whether a read failed, and by the length. Assumes nothing.
+-- By whether a read failed, and by the length.
 use native.Mathlib.Omega.{arith}
 use lib.ListN.{length-take}
 use borrow.Author.Needs.{needs}

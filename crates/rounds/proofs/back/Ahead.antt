@@ -1,4 +1,4 @@
--- The search for a tight edge: one lies ahead. Assumes nothing.
+-- The search for a tight edge: one lies ahead.
 use Prim.Native.Nat.{ℕ, _+_, _*_, _≤_, _<_}
 use mathlib.Core.Logic.{_≢_}
 use mathlib.Core.List.{List}

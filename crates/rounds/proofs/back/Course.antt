@@ -1,17 +1,18 @@
--- The walk back through the rows: what is known of it, and its start. Assumes nothing.
+-- The walk back through the rows: what is known of it, and its start.
 use Prim.Native.Nat.{ℕ, suc, _+_, _-_, _≤_, _<_}
 use mathlib.Core.Path.{_≡_, refl, ap}
 use mathlib.Core.Logic.{⊎-elim}
 use mathlib.Core.List.{List, [], _∷_}
 use native.Mathlib.Omega.{arith}
 use lib.ListN.{length, getD, set, take, drop, replicate, length-take, length-drop, getD-replicate, List·getD-eq-default}
-use Rattle.rounds.specs.Lists.{_∈_, lt-or-le, Distinct, none}
-use Rattle.rounds.specs.Graph.{reached}
+use Rattle.numbers.specs.Lists.{_∈_, Distinct, none}
+use Rattle.numbers.specs.ListLaws.{lt-or-le}
+use Rattle.specification.specs.Periods.{reached}
 use Rattle.rounds.specs.Trails.{Trail, rest}
 use Rattle.rounds.specs.Costs.{gainOf, lossOf, priced}
 use Rattle.rounds.specs.Starts.{starts, startOf}
 use Rattle.rounds.specs.StartsLaws.{starts-length}
-use Rattle.rounds.specs.Back.{Restless}
+use Rattle.rounds.specs.Back.{EveryRoundRaises}
 use Rattle.rounds.proofs.back.Marks.{Marks, marks-none, marks-more}
 
 -- steps r to n - 1 lead from port p, which grew in row r, to the port where the walk began
@@ -45,7 +46,7 @@ course-on {p = p} a h = record {
   marks = marks-more (a .marks) (a .traced .low);
 }
 
-module _ {cs rows : List ℕ} {n port : ℕ} {steps₀ : List ℕ} (s : Restless cs rows n port steps₀) where
+module _ {cs rows : List ℕ} {n port : ℕ} {steps₀ : List ℕ} (s : EveryRoundRaises cs rows n port steps₀) where
   pub port-low : port < 64
   port-low = ⊎-elim
       (λ (h : port < 64). h)

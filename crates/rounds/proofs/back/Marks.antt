@@ -1,4 +1,4 @@
--- The rows in which ports were met. Assumes nothing.
+-- The rows in which ports were met.
 use Prim.Native.Nat.{ℕ, suc, _+_, _-_, _≤_, _<_}
 use mathlib.Core.Path.{_≡_, sym, _∙_}
 use mathlib.Core.Logic.{⊎-elim}
@@ -7,7 +7,7 @@ use native.Mathlib.Omega.{arith}
 use native.Mathlib.Decide.{ℕ-discrete}
 use lib.ListN.{length, getD, set, replicate, length-set, length-replicate, getD-replicate}
 use lib.Seq.{getD-set-same, getD-set-other}
-use Rattle.rounds.specs.Lists.{_∈_}
+use Rattle.numbers.specs.Lists.{_∈_}
 
 -- port x stands in the list at row i, where the list starts at row r
 pub record Placed (ports : List ℕ) (r x i : ℕ) : Type 0 where

@@ -1,17 +1,17 @@
--- One step of the walk back, along a tight edge. Assumes nothing.
+-- One step of the walk back, along a tight edge.
 use Prim.Native.Nat.{ℕ, suc, _-_, _<_}
 use mathlib.Core.Path.{_≡_, ap, _∙_}
 use mathlib.Core.List.{List, _∷_}
 use native.Mathlib.Omega.{arith}
 use lib.ListN.{length, set, take, drop, length-set}
 use lib.Seq.{drop-cons, getD-set-same, drop-set-lt}
-use Rattle.rounds.specs.Lists.{more}
+use Rattle.numbers.specs.Lists.{more}
 use Rattle.rounds.specs.Trails.{trail-back, trail-grows}
 use Rattle.rounds.specs.Costs.{fromOf}
 use Rattle.rounds.specs.Starts.{startOf}
 use Rattle.rounds.specs.StartsLaws.{starts-rows}
 use Rattle.rounds.specs.Tight.{TightEdge, SomeTight}
-use Rattle.rounds.specs.Back.{Restless}
+use Rattle.rounds.specs.Back.{EveryRoundRaises}
 use Rattle.rounds.proofs.back.Stored.{Tight, tight-stored, tight-behind}
 use Rattle.rounds.proofs.back.Course.{Arrived, Course}
 
@@ -21,10 +21,10 @@ steps-more steps u n k b l =
     let e : n - u ≡ suc (n - suc u) = omega arith in
     rw (e, drop-cons (set steps u k) u 0 (rw length-set l), getD-set-same steps u k 0 l, drop-set-lt (suc u) steps u k (omega arith))
 
-pub step-low : {cs rows : List ℕ} {n port : ℕ} {steps₀ : List ℕ} {u p k : ℕ} → Restless cs rows n port steps₀ → TightEdge cs rows u p k → fromOf cs k < 64
+pub step-low : {cs rows : List ℕ} {n port : ℕ} {steps₀ : List ℕ} {u p k : ℕ} → EveryRoundRaises cs rows n port steps₀ → TightEdge cs rows u p k → fromOf cs k < 64
 step-low {k = k} s d = s .fitting .edges .from-in k (d .is-edge)
 
-module _ {cs rows : List ℕ} {n port : ℕ} {steps₀ : List ℕ} (s : Restless cs rows n port steps₀) {steps met : List ℕ} {p r : ℕ} (c : Course cs n port steps₀ steps met p r) where
+module _ {cs rows : List ℕ} {n port : ℕ} {steps₀ : List ℕ} (s : EveryRoundRaises cs rows n port steps₀) {steps met : List ℕ} {p r : ℕ} (c : Course cs n port steps₀ steps met p r) where
   module _ {u : ℕ} (e : r ≡ suc u) where
     before : u < n
     before = omega (arith, c .traced .within)

@@ -1,4 +1,4 @@
--- The rows of the buffer as starts, and the tight edge that each step back asks for. Assumes nothing.
+-- The rows of the buffer as starts, and the tight edge that each step back asks for.
 use Prim.Native.Nat.{ℕ, suc, _+_, _*_, _≤_, _<_}
 use mathlib.Core.Path.{_≡_, sym, ap, _∙_}
 use mathlib.Core.List.{List}

@@ -1,4 +1,4 @@
--- A copy from the front that is under way. Assumes nothing.
+-- A copy from the front that is under way.
 use Prim.Native.Nat.{ℕ, _+_, _≤_, _<_}
 use mathlib.Core.Path.{_≡_, refl, sym, _∙_}
 use mathlib.Core.List.{List}

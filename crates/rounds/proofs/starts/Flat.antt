@@ -1,4 +1,4 @@
--- The search for the lowest port that grew: none of the first p has. Assumes nothing.
+-- The search for the lowest port that grew: none of the first p has.
 use Prim.Native.Nat.{ℕ, _+_, _≤_, _<_}
 use mathlib.Core.List.{List}
 use native.Mathlib.Omega.{arith}

@@ -1,4 +1,4 @@
--- A round that is under way: the first k edges have been relaxed. Assumes nothing.
+-- A round that is under way: the first k edges have been relaxed.
 use Prim.Native.Nat.{ℕ, _+_, _*_, _≤_, _<_}
 use mathlib.Core.Path.{_≡_, sym, ap, _∙_}
 use mathlib.Core.List.{List}
@@ -9,18 +9,18 @@ use lib.Seq.{ext-getD}
 use Rattle.rounds.specs.Costs.{count, fromOf, toOf, mostCost}
 use Rattle.rounds.specs.Starts.{asked, raise, relaxed, roundOf}
 use Rattle.rounds.specs.StartsLaws.{raise-length, relaxed-round}
-use Rattle.rounds.specs.Relax.{Ready, Low, Grown, Round}
+use Rattle.rounds.specs.Relax.{Ready, CanRound, Grown, Round}
 use Rattle.rounds.proofs.starts.Relaxed.{raise-most}
 
 -- t is what the first k edges make of s
 pub record Partly (cs s : List ℕ) (k : ℕ) (t : List ℕ) : Type 0 where
-  pub low : Low cs s
+  pub low : CanRound cs s
   pub within : k ≤ count cs
   pub long : length t ≡ 64
   pub made : t ≡ relaxed cs s k
   pub starts : (j : ℕ) → getD t j 0 ≤ 65 * mostCost
 
-pub partly-none : {cs s t : List ℕ} → Low cs s → t ≡ s → Partly cs s 0 t
+pub partly-none : {cs s t : List ℕ} → CanRound cs s → t ≡ s → Partly cs s 0 t
 unfolding relaxed
 partly-none w e = record { low = w; within = omega arith; long = ap length e ∙ w .ports; made = e; starts = λ j. rw e (omega (arith, w .starts j)) }
 

@@ -1,4 +1,4 @@
--- What an edge does, by what it asks. Assumes nothing.
+-- What an edge does, by what it asks.
 use Prim.Native.Nat.{ℕ, _≤_, _<_, max}
 use mathlib.Core.Path.{_≡_}
 use mathlib.Core.List.{List}

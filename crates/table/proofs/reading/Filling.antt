@@ -1,4 +1,4 @@
--- What each record adds to slices that are being filled. Assumes nothing.
+-- What each record adds to slices that are being filled.
 use Prim.Native.Nat.{ℕ, suc, _+_, _-_, _*_}
 use mathlib.Core.Path.{_≡_, refl}
 use mathlib.Core.List.{List, [], _∷_}
@@ -8,11 +8,11 @@ use borrow.Author.Tests.{eq-eqb, ne-eqb}
 use lib.ListN.{length}
 use lib.Seq.{sets, length-sets}
 use Rattle.table.specs.Slices.{portNumbers, linkNumbers}
-use Rattle.table.specs.Reading.{Reading, withPort, withLink, nothing, addPort, addLink, start, somePort}
+use Rattle.specification.specs.Reading.{Reading, withPort, withLink, nothing, addPort, addLink, start, somePort}
 use Rattle.table.specs.Filled.{moved, Room, Filled}
-use Rattle.table.specs.declared.Port.{Port}
-use Rattle.table.specs.declared.Link.{Link}
-use Rattle.table.specs.declared.record.Before.{Before}
+use Rattle.specification.specs.declared.Port.{Port}
+use Rattle.specification.specs.declared.Link.{Link}
+use Rattle.specification.specs.declared.Before.{Before}
 use Rattle.table.specs.declared.reading.Counts.{Counts}
 
 module _ {b : Before} {ports links : List ℕ} where

@@ -1,4 +1,4 @@
--- The place stays within the input, and what is left of it falls. Assumes nothing.
+-- The place stays within the input, and what is left of it falls.
 use Prim.Native.Nat.{_≤_, _-_}
 use lib.ListN.{length}
 use borrow.Author.Needs.{needs}

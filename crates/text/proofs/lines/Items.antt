@@ -1,4 +1,4 @@
--- The items of a record are put one behind another. Assumes nothing.
+-- The items of a record are put one behind another.
 use Prim.Native.Nat.{ℕ, zero, suc, _+_, _*_, _≤_, _<_}
 use mathlib.Core.Path.{_≡_}
 use mathlib.Core.List.{List, _++_, append-assoc, append-nil}

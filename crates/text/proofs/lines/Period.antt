@@ -1,4 +1,4 @@
--- A component's a/b in lowest terms, times a port's weight. Assumes nothing.
+-- A component's a/b in lowest terms, times a port's weight.
 use Prim.Native.Nat.{ℕ, _*_, _^_, _<_}
 use mathlib.Core.Path.{_≡_}
 use native.Mathlib.Nat.{mul-comm, lt-of-le-of-lt}

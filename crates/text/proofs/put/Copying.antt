@@ -1,4 +1,4 @@
--- A word is put a byte at a time. Assumes nothing.
+-- A word is put a byte at a time.
 use Prim.Native.Nat.{ℕ, _+_, _≤_, _<_}
 use mathlib.Core.Path.{_≡_, refl}
 use mathlib.Core.List.{List, [], _∷_}

@@ -1,4 +1,4 @@
--- The fewest digits of a number are its decimal. Assumes nothing.
+-- The fewest digits of a number are its decimal.
 use Prim.Native.Nat.{ℕ, zero, suc, _+_, _*_, _-_, _/_, _%_, _^_, _≤_, _<_}
 use mathlib.Core.Path.{_≡_, refl}
 use mathlib.Core.List.{List}
@@ -40,10 +40,10 @@ module _ {n k : ℕ} (small : n < 2 ^ 64) (f : Fewest 10 1 n k) where
       let l : k < 21 = lt-of-not-le (λ (h : 21 ≤ k). omega (arith, f .2 (omega arith), power h)) in
       omega arith
 
-  pub decimal-put : {line text text′ : List ℕ} {to end : ℕ}
+  pub decimal-put-word : {line text text′ : List ℕ} {to end : ℕ}
       → line ≡ digits 10 k n
       → Put line text text′ to end
       → Put (decimal n) text text′ to end × (end ≤ to + 20)
-  decimal-put e p =
+  decimal-put-word e p =
       let q = rw (e, fewest-decimal n k fewest-small f) at p in
       (q, omega (arith, q .counted, decimal-size n .within))

@@ -1,6 +1,6 @@
--- What the analysis promises, and the demands that follow from it. Assumes nothing.
+-- What the analysis promises, and the demands that follow from it.
 use borrow.Author.Needs.{needs}
-use Rattle.graph.specs.DemandedLaws.{demanded}
+use Rattle.analysis.specs.DemandedLaws.{demanded}
 use Rattle.vundayre.proofs.vundayre_analyse.Statement.{statement}
 use Rattle.vundayre.proofs.vundayre_analyse.Tie as tie
 

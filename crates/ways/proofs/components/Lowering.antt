@@ -1,4 +1,4 @@
--- A label lowered to that of a joined port: the labels stay sound, and their sum falls. Assumes nothing.
+-- A label lowered to that of a joined port: the labels stay sound, and their sum falls.
 use Prim.Native.Nat.{ℕ, zero, suc, _<_}
 use mathlib.Core.Path.{_≡_, _∙_}
 use mathlib.Core.List.{List, [], _∷_}
@@ -6,9 +6,9 @@ use native.Mathlib.Decide.{ℕ-discrete}
 use native.Mathlib.Omega.{arith}
 use lib.ListN.{getD, set, length-set}
 use lib.Seq.{getD-set-same, getD-set-other}
-use Rattle.table.specs.Table.{Table}
-use Rattle.rounds.specs.Lists.{sum}
-use Rattle.ways.specs.Ways.{Joined}
+use Rattle.specification.specs.Table.{Table}
+use Rattle.numbers.specs.Lists.{sum}
+use Rattle.specification.specs.Ratios.{Joined}
 use Rattle.ways.specs.WayLaws.{joined-trans}
 use Rattle.ways.specs.Passes.{Both, Lowered, Label, Sound}
 

@@ -1,14 +1,13 @@
--- Sound labels that are the same at both ends of each link are the components. Assumes nothing.
+-- Sound labels that are the same at both ends of each link are the components.
 use Prim.Native.Nat.{ℕ, _≤_}
 use mathlib.Core.Bool.{Bool, true, false, cond}
 use mathlib.Core.Path.{_≡_, refl, sym, _∙_}
 use mathlib.Core.List.{List}
 use native.Mathlib.Omega.{arith}
 use lib.ListN.{getD}
-use Rattle.table.specs.Limits.{WellFormed}
-use Rattle.table.specs.Table.{Table, portCount, linkCount}
-use Rattle.ways.specs.Model.{IsLink, from, to}
-use Rattle.ways.specs.Ways.{Step, Way, stay, walk}
+use Rattle.table.specs.WellFormed.{WellFormed}
+use Rattle.specification.specs.Table.{Table, portCount, linkCount, IsLink, from, to}
+use Rattle.specification.specs.Ratios.{Step, Way, stay, walk}
 use Rattle.ways.specs.WayLaws.{step-port, way-port}
 use Rattle.ways.specs.Labels.{Components}
 use Rattle.ways.specs.Passes.{Sound, Even}

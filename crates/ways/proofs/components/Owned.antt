@@ -1,4 +1,4 @@
--- Each number its own label: the loop that makes them, and that they are sound. Assumes nothing.
+-- Each number its own label: the loop that makes them, and that they are sound.
 use Prim.Native.Nat.{ℕ, _+_, _≤_, _<_}
 use mathlib.Core.Path.{_≡_, _∙_}
 use mathlib.Core.List.{List}
@@ -7,7 +7,7 @@ use native.Mathlib.Omega.{arith}
 use borrow.Author.Count.{below-more}
 use lib.ListN.{length, set, length-set}
 use lib.Seq.{getD-set-same, getD-set-other}
-use Rattle.table.specs.Table.{Table}
+use Rattle.specification.specs.Table.{Table}
 use Rattle.ways.specs.WayLaws.{joined-refl}
 use Rattle.ways.specs.Passes.{Own, Sound}
 

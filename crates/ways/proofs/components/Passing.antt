@@ -1,4 +1,4 @@
--- A pass that is under way: what the next link does. Assumes nothing.
+-- A pass that is under way: what the next link does.
 use Prim.Native.Nat.{ℕ, _+_, _≤_, _<_}
 use mathlib.Core.Bool.{Bool, true, false, true≢false, false≢true}
 use mathlib.Core.Path.{_≡_}
@@ -6,11 +6,10 @@ use mathlib.Core.Logic.{⊎-elim}
 use mathlib.Core.List.{List}
 use native.Mathlib.Omega.{arith}
 use borrow.Author.Count.{below-more}
-use Rattle.table.specs.Limits.{WellFormed}
-use Rattle.table.specs.Table.{Table, linkCount}
-use Rattle.rounds.specs.Lists.{sum}
-use Rattle.ways.specs.Model.{IsLink, from, to}
-use Rattle.ways.specs.Ways.{Joined}
+use Rattle.table.specs.WellFormed.{WellFormed}
+use Rattle.specification.specs.Table.{Table, linkCount, IsLink, from, to}
+use Rattle.numbers.specs.Lists.{sum}
+use Rattle.specification.specs.Ratios.{Joined}
 use Rattle.ways.specs.WayLaws.{joined-sym, linked}
 use Rattle.ways.specs.Passes.{Both, Levelled, Sound, Passed}
 use Rattle.ways.proofs.components.Lowering.{sum-lowered, sound-lowered}

@@ -1,4 +1,4 @@
--- Two labels levelled, by which is smaller. Assumes nothing.
+-- Two labels levelled, by which is smaller.
 use Prim.Native.Nat.{ℕ, _≤_, _<_}
 use mathlib.Core.Bool.{true, false, true≢false, false≢true}
 use mathlib.Core.Path.{refl}

@@ -1,21 +1,20 @@
--- From the forest, the first conflict and the weights to the outcome. Assumes nothing.
+-- From the forest, the first conflict and the weights to the outcome.
 use Prim.Native.Nat.{ℕ, _≤_, _<_}
 use mathlib.Core.Path.{_≡_}
 use mathlib.Core.List.{List, map}
 use native.Mathlib.Omega.{arith}
 use lib.ListN.{length}
-use Rattle.table.specs.Limits.{WellFormed}
-use Rattle.table.specs.Table.{Table, linkCount}
-use Rattle.rounds.specs.Lists.{_∈_}
-use Rattle.ways.specs.Model.{from}
-use Rattle.ways.specs.Ways.{above, below}
+use Rattle.table.specs.WellFormed.{WellFormed}
+use Rattle.specification.specs.Table.{Table, linkCount, from}
+use Rattle.numbers.specs.Lists.{_∈_}
+use Rattle.specification.specs.Ratios.{above, below, DisagreeingLoop}
 use Rattle.ways.specs.Labels.{Components}
 use Rattle.forest.specs.PortRows.{Fits, Spanned}
 use Rattle.forest.specs.Agreement.{FirstConflict}
 use Rattle.forest.specs.Conflicting.{loop-unequal}
 use Rattle.forest.specs.Loop.{stepsFrom, Closing, Closed}
 use Rattle.weights.specs.Weighed.{Weighing}
-use Rattle.weights.specs.Ratios.{DisagreeingLoop, LoopNumbers}
+use Rattle.weights.specs.Ratios.{LoopNumbers}
 
 module _ {t : Table} {labels reach via : List ℕ} {rows : List (List ℕ)} {k : ℕ} (formed : WellFormed t) (components : Components t labels)
     (spanned : Spanned t labels reach via rows) (first : FirstConflict t rows k) where

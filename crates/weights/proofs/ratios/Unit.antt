@@ -1,11 +1,10 @@
--- A table whose ratios are all 1: every weight is 1. Assumes nothing.
+-- A table whose ratios are all 1: every weight is 1.
 use Prim.Native.Nat.{ℕ, _*_}
 use mathlib.Core.Path.{_≡_, ap₂, _∙_, sym}
 use mathlib.Core.List.{List}
 use native.Mathlib.Omega.{arith}
-use Rattle.table.specs.Limits.{WellFormed}
-use Rattle.table.specs.Table.{Table, portCount}
-use Rattle.ways.specs.Model.{from, to}
+use Rattle.table.specs.WellFormed.{WellFormed}
+use Rattle.specification.specs.Table.{Table, portCount, from, to}
 use Rattle.forest.specs.Parts.{greatestPart, zero-ones}
 use Rattle.weights.specs.Weighed.{Ones, HasWeights}
 

@@ -1,4 +1,4 @@
--- The difference of two rows as a list, and the number that it stands for. Assumes nothing.
+-- The difference of two rows as a list, and the number that it stands for.
 use Prim.Native.Nat.{ℕ, zero, suc, _*_, _-_}
 use mathlib.Core.Path.{_≡_, refl, sym}
 use mathlib.Core.List.{List, [], _∷_}
@@ -8,7 +8,7 @@ use Rattle.exponents.specs.Row.{rowValue, Within, excess}
 use Rattle.exponents.specs.RowLaws.{excess-value}
 use Rattle.exponents.specs.Powers.{powers-same}
 use Rattle.exponents.specs.Primes.{primeAt}
-use Rattle.fraction.specs.Exponents.{powers}
+use Rattle.numbers.specs.Exponents.{powers}
 
 pub difference : List ℕ → List ℕ → List ℕ
 difference [] b = []

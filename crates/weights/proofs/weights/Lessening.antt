@@ -1,4 +1,4 @@
--- The least rows as the ports are passed. Assumes nothing.
+-- The least rows as the ports are passed.
 use Prim.Native.Nat.{ℕ, _+_, _≤_, _<_}
 use mathlib.Core.Path.{_≡_, refl, _∙_}
 use mathlib.Core.List.{List, []}
@@ -9,9 +9,8 @@ use borrow.Author.Count.{below-more}
 use lib.ListN.{length, getD, set, length-set}
 use lib.Seq.{getD-set-same, getD-set-other}
 use Rattle.exponents.specs.Row.{RowAt, Within, Lesser, TakenLesser}
-use Rattle.table.specs.Table.{Table, portCount}
-use Rattle.rounds.specs.Lists.{lt-or-le}
-use Rattle.ways.specs.Model.{IsPort}
+use Rattle.specification.specs.Table.{Table, portCount, IsPort}
+use Rattle.numbers.specs.ListLaws.{lt-or-le}
 use Rattle.ways.specs.WayLaws.{way-port, joined-component, component-unique}
 use Rattle.forest.specs.PortRows.{rowOf}
 use Rattle.weights.specs.LeastRows.{LabelledRows, Attained, LeastRows}

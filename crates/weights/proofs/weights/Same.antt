@@ -1,10 +1,9 @@
--- Weights are weights by their numbers at the ports alone. Assumes nothing.
+-- Weights are weights by their numbers at the ports alone.
 use Prim.Native.Nat.{ℕ}
 use mathlib.Core.Path.{_≡_}
-use Rattle.table.specs.Limits.{WellFormed}
-use Rattle.table.specs.Table.{Table}
-use Rattle.ways.specs.Model.{IsPort, from, to}
-use Rattle.ways.specs.Weights.{Proportional, Weights}
+use Rattle.table.specs.WellFormed.{WellFormed}
+use Rattle.specification.specs.Table.{Table, IsPort, from, to}
+use Rattle.specification.specs.Ratios.{Proportional, Weights}
 
 module _ {t : Table} {w v : ℕ → ℕ} (formed : WellFormed t) (same : (p : ℕ) → IsPort t p → v p ≡ w p) where
   proportional-same : Proportional t w → Proportional t v

@@ -1,20 +1,18 @@
--- The numbers of the rows less the least rows are the weights. Assumes nothing.
+-- The numbers of the rows less the least rows are the weights.
 use Prim.Native.Nat.{ℕ, _*_}
 use mathlib.Core.Path.{_≡_, refl, ap}
 use mathlib.Core.List.{List}
 use native.Mathlib.Nat.{eq-of-mul-eq-mul-right}
 use native.Mathlib.Omega.{arith}
 use lib.ListN.{getD}
-use Rattle.fraction.specs.Divides.{Divides}
-use Rattle.fraction.specs.Prime.{IsPrime}
+use Rattle.numbers.specs.Divisors.{Divides}
+use Rattle.numbers.specs.Prime.{IsPrime}
 use Rattle.exponents.specs.Primes.{primeAt}
 use Rattle.exponents.specs.Row.{rowValue}
 use Rattle.exponents.specs.RowLaws.{row-positive, prime-in-row, exponent-positive}
-use Rattle.table.specs.Table.{Table, portCount}
-use Rattle.ways.specs.Model.{IsPort, IsLink, from, to, num, den}
-use Rattle.ways.specs.Ways.{Joined}
+use Rattle.specification.specs.Table.{Table, portCount, IsPort, IsLink, from, to, num, den}
+use Rattle.specification.specs.Ratios.{Joined, Proportional, Weights}
 use Rattle.ways.specs.WayLaws.{linked, joined-refl, joined-sym, joined-trans, joined-component, component-unique}
-use Rattle.ways.specs.Weights.{Proportional, Weights}
 use Rattle.ways.specs.WeightLaws.{smallest-by-primes}
 use Rattle.forest.specs.PortRows.{rowOf, valueOf}
 use Rattle.weights.specs.LeastRows.{Attained, LeastRows}

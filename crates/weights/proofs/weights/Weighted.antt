@@ -1,4 +1,4 @@
--- The weights as the ports are passed. Assumes nothing.
+-- The weights as the ports are passed.
 use Prim.Native.Nat.{ℕ, _+_, _≤_, _<_, min}
 use mathlib.Core.Bool.{true, false, true≢false}
 use mathlib.Core.Path.{_≡_, refl, sym, ap, _∙_}
@@ -9,12 +9,13 @@ use lib.ListN.{length, getD, set, replicate, length-set}
 use lib.Seq.{getD-set-same, getD-set-other}
 use Rattle.exponents.specs.Row.{RowAt, Within, SameAbove, excess}
 use Rattle.exponents.specs.Primes.{primeAt}
-use Rattle.fraction.specs.Exponents.{powers}
+use Rattle.numbers.specs.Exponents.{powers}
 use Rattle.rounds.specs.StartsLaws.{zeros-at}
-use Rattle.table.specs.Table.{Table, portCount}
+use Rattle.specification.specs.Table.{Table, portCount}
 use Rattle.forest.specs.PortRows.{rowOf, RowsUpTo}
 use Rattle.weights.specs.LeastRows.{LabelledRows, LeastRows}
-use Rattle.weights.specs.Weighed.{Weighing, Ones, IsWeighed, mostWeight}
+use Rattle.weights.specs.Weighed.{Weighing, Ones, IsWeighed}
+use Rattle.specification.specs.Ratios.{mostWeight}
 use Rattle.weights.proofs.weights.Difference.{excess-difference}
 use Rattle.weights.proofs.weights.Lessening.{label-small}
 use Rattle.weights.proofs.weights.Same.{weights-same}

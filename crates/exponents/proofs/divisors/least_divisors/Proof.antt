@@ -1,4 +1,4 @@
--- The table is the list of the least divisors. Assumes nothing.
+-- The table is the list of the least divisors.
 use borrow.Author.Needs.{needs}
 use Rattle.exponents.specs.Divisors.{leastDivisors}
 use Rattle.exponents.proofs.divisors.least_divisors.Statement.{statement}

@@ -1,4 +1,4 @@
--- Each entry of the table is the least divisor of its number. Assumes nothing.
+-- Each entry of the table is the least divisor of its number.
 use Rattle.exponents.specs.Divisors.{divisor-entry, divisor-least}
 use borrow.Author.Needs.{needs}
 use Rattle.exponents.proofs.factor.least_divisor.Statement.{statement}

@@ -1,4 +1,4 @@
--- The list is that of the places. Assumes nothing.
+-- The list is that of the places.
 use Rattle.exponents.specs.Primes.{place-entry, place-is}
 use borrow.Author.Needs.{needs}
 use Rattle.exponents.proofs.factor.place.Statement.{statement}

@@ -1,4 +1,4 @@
--- The least divisor is a prime that has a place. Assumes nothing.
+-- The least divisor is a prime that has a place.
 use Rattle.exponents.specs.Factor.{divisor-high, divisor-factor}
 use borrow.Author.Needs.{needs}
 use Rattle.exponents.proofs.factor.prime_factor.Statement.{statement}

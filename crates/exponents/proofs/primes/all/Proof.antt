@@ -1,4 +1,4 @@
--- The table is the list of the primes. Assumes nothing.
+-- The table is the list of the primes.
 use borrow.Author.Needs.{needs}
 use Rattle.exponents.specs.Primes.{primes}
 use Rattle.exponents.proofs.primes.all.Statement.{statement}

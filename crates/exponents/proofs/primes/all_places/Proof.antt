@@ -1,4 +1,4 @@
--- The table is the list of the places. Assumes nothing.
+-- The table is the list of the places.
 use borrow.Author.Needs.{needs}
 use Rattle.exponents.specs.Primes.{places}
 use Rattle.exponents.proofs.primes.all_places.Statement.{statement}

@@ -1,4 +1,4 @@
--- The product of the powers passed, up to the bound. Assumes nothing.
+-- The product of the powers passed, up to the bound.
 use Prim.Native.Nat.{_-_}
 use mathlib.Core.List.{[]}
 use native.Mathlib.Omega.{arith}
@@ -30,7 +30,11 @@ wide-requires : tie.Need-wide-requires Inv-loop μ-loop
 wide-requires c κs = search needs
 
 returns : tie.Need-returns Inv-loop μ-loop
-returns c = producing-rest (c .before .before .before .before .before .loop .inv) (c .before .before .before .before .loop-test .taken) (c .before .before .before .before .before .before .before .pre .0) (c .before .wide .ensures) (λ k l h. omega (arith, c .before .before .before .before .before .before .before .pre .1 .1 .1 .place k l h)) (c .if2 .taken)
+returns c =
+    let at-loop-test = c .before .before .before .before in
+    let at-loop = at-loop-test .before in
+    let entry = at-loop .before .before in
+    producing-rest (at-loop .loop .inv) (at-loop-test .loop-test .taken) (entry .pre .0) (c .before .wide .ensures) (λ k l h. omega (arith, entry .pre .1 .1 .1 .place k l h)) (c .if2 .taken)
 
 mul-times-power : tie.Need-mul-times-power Inv-loop μ-loop
 mul-times-power c = search needs
@@ -57,10 +61,17 @@ index-2-times-power-2 : tie.Need-index-2-times-power-2 Inv-loop μ-loop
 index-2-times-power-2 c = search needs
 
 sub-times-power : tie.Need-sub-times-power Inv-loop μ-loop
-sub-times-power c = omega (arith, c .before .before .before .before .before .before .before .before .before .pre .1 .1 .0 .place _ (c .before .before .before .before .before .before .loop-test .taken))
+sub-times-power c =
+    let at-loop-test = c .before .before .before .before .before .before in
+    let entry = at-loop-test .before .before .before in
+    omega (arith, entry .pre .1 .1 .0 .place _ (at-loop-test .loop-test .taken))
 
 times-power-requires : tie.Need-times-power-requires Inv-loop μ-loop
-times-power-requires c κs = producing-factors (c .before .before .before .before .before .before .before .loop .inv) (c .before .before .before .before .before .before .loop-test .taken) (c .before .before .before .before .before .before .before .before .before .pre .0) (c .before .before .before .wide .ensures)
+times-power-requires c κs =
+    let at-loop-test = c .before .before .before .before .before .before in
+    let at-loop = at-loop-test .before in
+    let entry = at-loop .before .before in
+    producing-factors (at-loop .loop .inv) (at-loop-test .loop-test .taken) (entry .pre .0) (c .before .before .before .wide .ensures)
 
 add-i : tie.Need-add-i Inv-loop μ-loop
 add-i c = search needs
@@ -69,7 +80,12 @@ loop-less : tie.Need-loop-less Inv-loop μ-loop
 loop-less c = search needs
 
 loop-again : tie.Need-loop-again Inv-loop μ-loop
-loop-again c = producing-on (c .before .before .before .before .before .before .before .before .loop .inv) (c .before .before .before .before .before .before .before .loop-test .taken) (c .before .before .before .before .before .before .before .before .before .before .pre .0) (c .before .before .before .before .wide .ensures) (c .times-power .ensures)
+loop-again c =
+    let at-wide = c .before .before .before .before in
+    let at-loop-test = at-wide .before .before .before in
+    let at-loop = at-loop-test .before in
+    let entry = at-loop .before .before in
+    producing-on (at-loop .loop .inv) (at-loop-test .loop-test .taken) (entry .pre .0) (at-wide .wide .ensures) (c .times-power .ensures)
 
 returns-2 : tie.Need-returns-2 Inv-loop μ-loop
 returns-2 c = producing-past (c .before .before .loop .inv) (search (leb-false, needs))

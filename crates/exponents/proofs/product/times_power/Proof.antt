@@ -1,4 +1,4 @@
--- The product so far times what is left of the power, up to the bound. Assumes nothing.
+-- The product so far times what is left of the power, up to the bound.
 use Rattle.exponents.proofs.product.Bounded.{Powered, powered-none, powered-room, powered-on, powered-all, powered-past}
 use borrow.Author.Tests.{leb-true, leb-false}
 use mathlib.Core.Logic.{⊎-elim}

@@ -1,4 +1,4 @@
--- The count of the places that differ, among those passed. Assumes nothing.
+-- The count of the places that differ, among those passed.
 use borrow.Author.Needs.{needs}
 use Rattle.exponents.proofs.row.Equal.{Differing, differing-none, differing-on, differing-off, same-all}
 use Prim.Native.Nat.{_-_}

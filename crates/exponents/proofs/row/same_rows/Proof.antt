@@ -1,4 +1,4 @@
--- The count of the places that differ, among those passed. Assumes nothing.
+-- The count of the places that differ, among those passed.
 use mathlib.Core.List.{[]}
 use Prim.Native.Nat.{_-_}
 use mathlib.Core.Logic.{⊎-elim}

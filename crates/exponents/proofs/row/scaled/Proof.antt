@@ -1,4 +1,4 @@
--- One prime factor a turn, until nothing is left: first those to multiply by, then those to divide by. Assumes nothing.
+-- One prime factor a turn, until nothing is left: first those to multiply by, then those to divide by.
 use Rattle.exponents.proofs.row.Factors.{Partly, partly-none, from-two, room-above, room-below, left-falls, multiplied-on, divided-on, scaled-all}
 use borrow.Author.Needs.{needs}
 use Rattle.exponents.proofs.row.scaled.Statement.{statement}

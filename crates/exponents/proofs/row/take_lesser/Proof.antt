@@ -1,4 +1,4 @@
--- The row at c is combined place by place. The measure is how many places are left. Assumes nothing.
+-- The row at c is combined place by place. The measure is how many places are left.
 use Prim.Native.Nat.{_-_}
 use mathlib.Core.List.{[]}
 use lib.ListN.{getD}
@@ -62,7 +62,10 @@ loop-less : tie.Need-loop-less Inv-loop μ-loop
 loop-less c = search needs
 
 loop-again : tie.Need-loop-again Inv-loop μ-loop
-loop-again c = lesser-on (c .before .before .before .before .before .pre .0) (c .before .before .before .before .loop .inv) (c .before .before .before .loop-test .taken) (c .smaller .ensures)
+loop-again c =
+    let at-loop = c .before .before .before .before in
+    let entry = at-loop .before in
+    lesser-on (entry .pre .0) (at-loop .loop .inv) (c .before .before .before .loop-test .taken) (c .smaller .ensures)
 
 returns : tie.Need-returns Inv-loop μ-loop
 returns c = lesser-all (c .before .before .pre .0) (c .before .loop .inv) (c .loop-test .left)

@@ -1,4 +1,4 @@
--- Where the rows fit m and l is parallel to it, they fit l uncompared. Assumes nothing.
+-- Where the rows fit m and l is parallel to it, they fit l uncompared.
 use Rattle.forest.proofs.agreement.Parallels.{parallel-fits}
 use borrow.Author.Needs.{needs}
 use Rattle.forest.proofs.agreement.agrees.Statement.{statement}

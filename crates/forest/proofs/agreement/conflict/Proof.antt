@@ -1,4 +1,4 @@
--- The rows fit every link passed so far. Assumes nothing.
+-- The rows fit every link passed so far.
 use Rattle.table.specs.Slices.{linksOf, tableOf}
 use lib.ListN.{length}
 use Prim.Native.Nat.{_-_}
@@ -26,35 +26,42 @@ at-requires : tie.Need-at-requires Inv-loop μ-loop
 at-requires c κs = search needs
 
 later-requires : tie.Need-later-requires Inv-loop μ-loop
-later-requires c κs = let l = link-low (c .before .before .before .before .before .before .before .before .pre .0) (omega arith) (c .at .ensures) in (l .from, l .to)
+later-requires c κs =
+    let entry = c .before .before .before .before .before .before .before .before in
+    let l = link-low (entry .pre .0) (omega arith) (c .at .ensures) in (l .from, l .to)
 
 tree-link-requires : tie.Need-tree-link-requires Inv-loop μ-loop
 tree-link-requires c κs =
+    let entry = c .before .before .before .before .before .before .before .before .before in
     let l = c .before .at .result in
-    let end = later-either (c .before .before .before .before .before .before .before .before .before .args .reach .now) (l .from) (l .to) (c .later .ensures) in
-    end-low (c .before .before .before .before .before .before .before .before .before .pre .0) (omega arith) (c .before .at .ensures) end
+    let end = later-either (entry .args .reach .now) (l .from) (l .to) (c .later .ensures) in
+    end-low (entry .pre .0) (omega arith) (c .before .at .ensures) end
 
 at-requires-2 : tie.Need-at-requires-2 Inv-loop μ-loop
 at-requires-2 c κs =
+    let entry = c .before .before .before .before .before .before .before .before .before .before in
     let l = c .before .before .at .result in
-    let end = later-either (c .before .before .before .before .before .before .before .before .before .before .args .reach .now) (l .from) (l .to) (c .before .later .ensures) in
-    let given = c .before .before .before .before .before .before .before .before .before .before .pre in
-    let args = c .before .before .before .before .before .before .before .before .before .before .args in
+    let end = later-either (entry .args .reach .now) (l .from) (l .to) (c .before .later .ensures) in
+    let given = entry .pre in
+    let args = entry .args in
     over-known (given .0) (omega arith) (c .before .before .at .ensures) end (args .labels .now) (args .via .now) (given .1 .1 .0) (c .tree-link .ensures) .below
 
 agrees-requires : tie.Need-agrees-requires Inv-loop μ-loop
 agrees-requires c κs =
-    let l = c .before .before .before .at .result in
-    let end = later-either (c .before .before .before .before .before .before .before .before .before .before .before .args .reach .now) (l .from) (l .to) (c .before .before .later .ensures) in
     let given = c .before .before .before .before .before .before .before .before .before .before .before .pre in
     let args = c .before .before .before .before .before .before .before .before .before .before .before .args in
+    let l = c .before .before .before .at .result in
+    let end = later-either (args .reach .now) (l .from) (l .to) (c .before .before .later .ensures) in
     let known = over-known (given .0) (omega arith) (c .before .before .before .at .ensures) end (args .labels .now) (args .via .now) (given .1 .1 .0) (c .before .tree-link .ensures) in
     let one = link-low (given .0) (omega arith) (c .before .before .before .at .ensures) in
     let other = link-low (given .0) (known .below) (c .at2 .ensures) in
     (one, (other, (given .1 .0, (rw (c .at2 .ensures) (known .fits), given .1 .1 .1))))
 
 returns : tie.Need-returns Inv-loop μ-loop
-returns c = scanned-conflict (c .before .before .before .before .before .before .before .loop .inv) (c .before .before .before .before .before .at .ensures) (c .before .agrees .ensures) (not-true (c .before .agrees .result) (c .if1 .taken))
+returns c =
+    let at-at = c .before .before .before .before .before in
+    let at-loop = at-at .before .before in
+    scanned-conflict (at-loop .loop .inv) (at-at .at .ensures) (c .before .agrees .ensures) (not-true (c .before .agrees .result) (c .if1 .taken))
 
 add-k : tie.Need-add-k Inv-loop μ-loop
 add-k c = search needs
@@ -63,7 +70,10 @@ loop-less : tie.Need-loop-less Inv-loop μ-loop
 loop-less c = search needs
 
 loop-again : tie.Need-loop-again Inv-loop μ-loop
-loop-again c = scanned-on (c .before .before .before .before .before .before .before .loop .inv) (c .before .before .before .before .before .at .ensures) (c .before .agrees .ensures) (omega arith) (not-false (c .before .agrees .result) (c .if1 .left))
+loop-again c =
+    let at-at = c .before .before .before .before .before in
+    let at-loop = at-at .before .before in
+    scanned-on (at-loop .loop .inv) (at-at .at .ensures) (c .before .agrees .ensures) (omega arith) (not-false (c .before .agrees .result) (c .if1 .left))
 
 returns-2 : tie.Need-returns-2 Inv-loop μ-loop
 returns-2 c = scanned-all (c .before .loop .inv) (omega arith)

@@ -1,14 +1,18 @@
--- Equal rows are equal numbers, and only these. Assumes nothing.
+-- Equal rows are equal numbers, and only these.
 use Rattle.forest.proofs.agreement.Compared.{room-multiply, room-divide, row-at, compared-rows, compared}
 use borrow.Author.Needs.{needs}
 use Rattle.forest.proofs.agreement.fits.Statement.{statement}
 use Rattle.forest.proofs.agreement.fits.Tie as tie
 
 same-rows-requires : tie.Need-same-rows-requires
-same-rows-requires c κs = (row-at _ (c .before .before .before .before .pre .1 .0) (c .before .before .before .before .pre .0 .to), row-at _ (c .before .before .before .before .pre .1 .0) (c .before .before .before .before .pre .0 .from))
+same-rows-requires c κs =
+    let entry = c .before .before .before .before in
+    (row-at _ (entry .pre .1 .0) (entry .pre .0 .to), row-at _ (entry .pre .1 .0) (entry .pre .0 .from))
 
 returns : tie.Need-returns
-returns c = compared-rows (c .before .before .before .before .before .pre .0) (c .before .before .before .before .before .pre .1 .0) (c .before .if1 .taken) (c .same-rows .ensures)
+returns c =
+    let entry = c .before .before .before .before .before in
+    compared-rows (entry .pre .0) (entry .pre .1 .0) (c .before .if1 .taken) (c .same-rows .ensures)
 
 mul-scaled : tie.Need-mul-scaled
 mul-scaled c = search needs
@@ -17,7 +21,9 @@ element-copy-out-scaled : tie.Need-element-copy-out-scaled
 element-copy-out-scaled c = search needs
 
 scaled-requires : tie.Need-scaled-requires
-scaled-requires c κs = (c .before .before .before .before .before .pre .1 .1, (room-multiply _ _ (c .before .before .before .before .before .pre .1 .0) (c .before .before .before .before .before .pre .0 .to) (c .before .before .before .before .before .pre .0 .num), room-divide _ _ (c .before .before .before .before .before .pre .1 .0) (c .before .before .before .before .before .pre .0 .to) (c .before .before .before .before .before .pre .0 .den)))
+scaled-requires c κs =
+    let entry = c .before .before .before .before .before in
+    (entry .pre .1 .1, (room-multiply _ _ (entry .pre .1 .0) (entry .pre .0 .to) (entry .pre .0 .num), room-divide _ _ (entry .pre .1 .0) (entry .pre .0 .to) (entry .pre .0 .den)))
 
 mul-same : tie.Need-mul-same
 mul-same c = search needs
@@ -29,7 +35,9 @@ same-requires : tie.Need-same-requires
 same-requires c κs = search needs
 
 returns-2 : tie.Need-returns-2
-returns-2 c = compared (c .before .before .before .before .before .before .before .before .pre .0) (c .before .before .before .before .before .before .before .before .pre .1 .0) (c .before .before .scaled .ensures) (search needs) (c .same .ensures)
+returns-2 c =
+    let entry = c .before .before .before .before .before .before .before .before in
+    compared (entry .pre .0) (entry .pre .1 .0) (c .before .before .scaled .ensures) (search needs) (c .same .ensures)
 
 pub fits-spec : {M : Type 1} → statement M
 fits-spec =

@@ -1,4 +1,4 @@
--- The lowest port of a component was reached over none. Assumes nothing.
+-- The lowest port of a component was reached over none.
 use Rattle.forest.proofs.agreement.TreeLinks.{over-none, over-via}
 use borrow.Author.Needs.{needs}
 use Rattle.forest.proofs.agreement.tree_link.Statement.{statement}

@@ -1,4 +1,4 @@
--- Each turn of the loop copies one number more. The measure is how many are left. Assumes nothing.
+-- Each turn of the loop copies one number more. The measure is how many are left.
 use native.Mathlib.Omega.{arith}
 use Rattle.forest.proofs.loops.Copying.{copied-none, copied-more, copied-all}
 use Prim.Native.Nat.{_-_}

@@ -1,4 +1,4 @@
--- The climb met at one port, and the steps down are copied behind the steps up. Assumes nothing.
+-- The climb met at one port, and the steps down are copied behind the steps up.
 use Rattle.forest.proofs.loops.Ending.{met-room, met-closed}
 use borrow.Author.Needs.{needs}
 use Rattle.forest.proofs.loops.close.Statement.{statement}

@@ -1,4 +1,4 @@
--- The link over which the port was reached has the port and its parent as its ends. Assumes nothing.
+-- The link over which the port was reached has the port and its parent as its ends.
 use mathlib.Core.Path.{sym, _∙_}
 use Rattle.forest.proofs.loops.Parents.{parent-along, parent-against}
 use borrow.Author.Needs.{needs}
@@ -18,10 +18,14 @@ to-requires : tie.Need-to-requires
 to-requires c κs = search needs
 
 returns : tie.Need-returns
-returns c = rw (c .before .to .ensures) (parent-along (c .before .before .before .before .before .before .pre) (sym (c .before .before .from .ensures) ∙ c .if1 .taken))
+returns c =
+    let entry = c .before .before .before .before .before .before in
+    rw (c .before .to .ensures) (parent-along (entry .pre) (sym (c .before .before .from .ensures) ∙ c .if1 .taken))
 
 returns-2 : tie.Need-returns-2
-returns-2 c = rw (c .before .before .from .ensures) (parent-against (c .before .before .before .before .before .before .pre) (λ e. c .if1 .left (c .before .before .from .ensures ∙ e)))
+returns-2 c =
+    let entry = c .before .before .before .before .before .before in
+    rw (c .before .before .from .ensures) (parent-against (entry .pre) (λ e. c .if1 .left (c .before .before .from .ensures ∙ e)))
 
 pub parent-spec : {M : Type 1} → statement M
 parent-spec =

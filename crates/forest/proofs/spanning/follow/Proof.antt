@@ -1,4 +1,4 @@
--- Where p is not reached or q is, nothing changes; otherwise q is reached. Assumes nothing.
+-- Where `from` is not reached or `to` is, nothing changes; otherwise `to` is reached.
 use Rattle.forest.proofs.spanning.Following.{follow-unreached, follow-reached, follow-on}
 use borrow.Author.Needs.{needs}
 use Rattle.forest.proofs.spanning.follow.Statement.{statement}

@@ -1,10 +1,10 @@
--- Each turn of the loop passes one link more, both ways. The measure is how many are left. Assumes nothing.
+-- Each turn of the loop passes one link more, both ways. The measure is how many are left.
 use Rattle.table.specs.Slices.{linksOf, tableOf}
 use lib.ListN.{length}
 use Prim.Native.Nat.{_-_}
 use native.Mathlib.Omega.{arith}
 use Rattle.forest.specs.Spreading.{forestOf, Passed}
-use Rattle.forest.proofs.spanning.Passing.{passed-none, passed-all, follow-forth, follow-back, spreading-forth, passed-on}
+use Rattle.forest.proofs.spanning.Passing.{Named, passed-none, passed-all, follow-forth, follow-back, spreading-forth, passed-on}
 use borrow.Author.Needs.{needs}
 use Rattle.forest.proofs.spanning.pass.Statement.{statement}
 use Rattle.forest.proofs.spanning.pass.Tie as tie
@@ -19,7 +19,7 @@ count-requires : tie.Need-count-requires Inv-loop μ-loop
 count-requires c κs = search needs
 
 loop-holds : tie.Need-loop-holds Inv-loop μ-loop
-loop-holds c = passed-none (c .before .before .before .before .before .pre .1 .0)
+loop-holds c = let entry = c .before .before .before .before .before in passed-none (entry .pre .1 .0)
 
 from-requires : tie.Need-from-requires Inv-loop μ-loop
 from-requires c κs = search needs
@@ -34,10 +34,24 @@ den-requires : tie.Need-den-requires Inv-loop μ-loop
 den-requires c κs = search needs
 
 follow-requires : tie.Need-follow-requires Inv-loop μ-loop
-follow-requires c κs = (follow-forth (c .before .before .before .before .before .before .before .before .before .before .before .before .before .before .pre .0) (omega arith) (record { sender = c .before .before .before .before .before .before .from .ensures; receiver = c .before .before .before .before .before .to .ensures; above = c .before .before .before .before .num .ensures; below = c .before .before .before .den .ensures }) (c .before .before .before .before .before .before .before .before .loop .inv .spreading), c .before .before .before .before .before .before .before .before .before .before .before .before .before .before .pre .1 .1)
+follow-requires c κs =
+    let at-num = c .before .before .before .before in
+    let at-to = at-num .before in
+    let at-from = at-to .before in
+    let at-loop = at-from .before .before in
+    let entry = at-loop .before .before .before .before .before .before in
+    (follow-forth (entry .pre .0) (omega arith) (record { sender = at-from .from .ensures; receiver = at-to .to .ensures; above = at-num .num .ensures; below = c .before .before .before .den .ensures }) (at-loop .loop .inv .spreading), entry .pre .1 .1)
 
 follow-requires-2 : tie.Need-follow-requires-2 Inv-loop μ-loop
-follow-requires-2 c κs = (follow-back (c .before .before .before .before .before .before .before .before .before .before .before .before .before .before .before .before .before .before .pre .0) (omega arith) (record { sender = c .before .before .before .before .before .before .before .before .before .before .from .ensures; receiver = c .before .before .before .before .before .before .before .before .before .to .ensures; above = c .before .before .before .before .before .before .before .before .num .ensures; below = c .before .before .before .before .before .before .before .den .ensures }) (spreading-forth (c .before .before .before .before .before .before .before .before .before .before .before .before .before .before .before .before .before .before .pre .0) (omega arith) (record { sender = c .before .before .before .before .before .before .before .before .before .before .from .ensures; receiver = c .before .before .before .before .before .before .before .before .before .to .ensures; above = c .before .before .before .before .before .before .before .before .num .ensures; below = c .before .before .before .before .before .before .before .den .ensures }) (c .before .before .before .follow .ensures) (c .before .before .before .before .before .before .before .before .before .before .before .before .loop .inv .spreading)), c .before .before .before .before .before .before .before .before .before .before .before .before .before .before .before .before .before .before .pre .1 .1)
+follow-requires-2 c κs =
+    let at-den = c .before .before .before .before .before .before .before in
+    let at-num = at-den .before in
+    let at-to = at-num .before in
+    let at-from = at-to .before in
+    let at-loop = at-from .before .before in
+    let entry = at-loop .before .before .before .before .before .before in
+    let ends : Named (tableOf (entry .args .ports .now) (entry .args .links .now)) _ _ _ _ _ = record { sender = at-from .from .ensures; receiver = at-to .to .ensures; above = at-num .num .ensures; below = at-den .den .ensures } in
+    (follow-back (entry .pre .0) (omega arith) ends (spreading-forth (entry .pre .0) (omega arith) ends (c .before .before .before .follow .ensures) (at-loop .loop .inv .spreading)), entry .pre .1 .1)
 
 add-k : tie.Need-add-k Inv-loop μ-loop
 add-k c = search needs
@@ -46,7 +60,15 @@ loop-less : tie.Need-loop-less Inv-loop μ-loop
 loop-less c = search needs
 
 loop-again : tie.Need-loop-again Inv-loop μ-loop
-loop-again c = passed-on (c .before .before .before .before .before .before .before .before .before .before .before .before .before .before .before .before .before .before .before .pre .0) (omega arith) (record { sender = c .before .before .before .before .before .before .before .before .before .before .before .from .ensures; receiver = c .before .before .before .before .before .before .before .before .before .before .to .ensures; above = c .before .before .before .before .before .before .before .before .before .num .ensures; below = c .before .before .before .before .before .before .before .before .den .ensures }) (c .before .before .before .before .follow .ensures) (c .follow2 .ensures) (c .before .before .before .before .before .before .before .before .before .before .before .before .before .loop .inv)
+loop-again c =
+    let at-follow = c .before .before .before .before in
+    let at-den = at-follow .before .before .before .before in
+    let at-num = at-den .before in
+    let at-to = at-num .before in
+    let at-from = at-to .before in
+    let at-loop = at-from .before .before in
+    let entry = at-loop .before .before .before .before .before .before in
+    passed-on (entry .pre .0) (omega arith) (record { sender = at-from .from .ensures; receiver = at-to .to .ensures; above = at-num .num .ensures; below = at-den .den .ensures }) (at-follow .follow .ensures) (c .follow2 .ensures) (at-loop .loop .inv)
 
 returns : tie.Need-returns Inv-loop μ-loop
 returns c = passed-all (c .before .loop .inv) (omega arith)

@@ -1,4 +1,4 @@
--- Each turn of the loop passes one port more. The measure is how many are left. Assumes nothing.
+-- Each turn of the loop passes one port more. The measure is how many are left.
 use Prim.Native.Nat.{_-_}
 use mathlib.Core.Logic.{⊎-elim}
 use native.Mathlib.Omega.{arith}
@@ -24,7 +24,9 @@ element-copy-out-if1 : tie.Need-element-copy-out-if1 Inv-loop μ-loop
 element-copy-out-if1 c = search needs
 
 add-count : tie.Need-add-count Inv-loop μ-loop
-add-count c = omega (arith, rooting-few (c .before .before .before .loop .inv) (c .before .before .before .before .pre .0) (c .before .before .loop-test .taken))
+add-count c =
+    let entry = c .before .before .before .before in
+    omega (arith, rooting-few (c .before .before .before .loop .inv) (entry .pre .0) (c .before .before .loop-test .taken))
 
 mul-reach : tie.Need-mul-reach Inv-loop μ-loop
 mul-reach c = search needs
@@ -45,9 +47,11 @@ loop-less : tie.Need-loop-less Inv-loop μ-loop
 loop-less c = search needs
 
 loop-again : tie.Need-loop-again Inv-loop μ-loop
-loop-again c = ⊎-elim
-    (λ w. rw (w .3, w .2, w .1) (rooting-on (c .before .before .before .loop .inv) (c .before .before .before .before .pre .0) (c .before .before .loop-test .taken) (w .0 .taken)))
-    (λ w. rw (w .3, w .2, w .1) (rooting-off (c .before .before .before .loop .inv) (c .before .before .before .before .pre .0) (c .before .before .loop-test .taken) (w .0 .left)))
+loop-again c =
+    let entry = c .before .before .before .before in
+    ⊎-elim
+    (λ w. rw (w .3, w .2, w .1) (rooting-on (c .before .before .before .loop .inv) (entry .pre .0) (c .before .before .loop-test .taken) (w .0 .taken)))
+    (λ w. rw (w .3, w .2, w .1) (rooting-off (c .before .before .before .loop .inv) (entry .pre .0) (c .before .before .loop-test .taken) (w .0 .left)))
     (c .if1 .came)
 
 returns : tie.Need-returns Inv-loop μ-loop

@@ -1,4 +1,4 @@
--- Each pass but the last reaches a port. The measure is how many of 64 are left. Assumes nothing.
+-- Each pass but the last reaches a port. The measure is how many of 64 are left.
 use borrow.Author.Needs.{needs}
 use Rattle.table.specs.Slices.{tableOf}
 use Prim.Native.Nat.{_-_}
@@ -19,16 +19,24 @@ count-requires : tie.Need-count-requires Inv-loop μ-loop
 count-requires c κs = search needs
 
 roots-requires : tie.Need-roots-requires Inv-loop μ-loop
-roots-requires c κs = (rw (c .before .before .count .ensures) (start-rootable (c .before .before .before .before .before .before .before .pre .0)), record { no-reach = refl; no-via = refl })
+roots-requires c κs =
+    let entry = c .before .before .before .before .before .before .before in
+    (rw (c .before .before .count .ensures) (start-rootable (entry .pre .0)), record { no-reach = refl; no-via = refl })
 
 loop-holds : tie.Need-loop-holds Inv-loop μ-loop
-loop-holds c = start-spreading (c .before .before .before .before .before .before .before .before .pre .0) (c .before .before .before .before .before .before .before .before .pre .1 .0) (rw (c .before .before .before .count .ensures) at (c .roots .ensures)) (c .before .before .before .before .before .before .before .before .pre .1 .1 .0)
+loop-holds c =
+    let entry = c .before .before .before .before .before .before .before .before in
+    start-spreading (entry .pre .0) (entry .pre .1 .0) (rw (c .before .before .before .count .ensures) at (c .roots .ensures)) (entry .pre .1 .1 .0)
 
 pass-requires : tie.Need-pass-requires Inv-loop μ-loop
-pass-requires c κs = (c .before .before .before .before .before .before .before .before .before .before .before .before .pre .0, (c .before .before .before .loop .inv, c .before .before .before .before .before .before .before .before .before .before .before .before .pre .1 .1 .1))
+pass-requires c κs =
+    let entry = c .before .before .before .before .before .before .before .before .before .before .before .before in
+    (entry .pre .0, (c .before .before .before .loop .inv, entry .pre .1 .1 .1))
 
 returns : tie.Need-returns Inv-loop μ-loop
-returns c = closed-spanned (c .before .pass .ensures .closed (c .if1 .taken)) (c .before .before .before .before .before .before .before .before .before .before .before .before .before .before .pre .1 .0) (c .before .pass .ensures .spreading)
+returns c =
+    let entry = c .before .before .before .before .before .before .before .before .before .before .before .before .before .before in
+    closed-spanned (c .before .pass .ensures .closed (c .if1 .taken)) (entry .pre .1 .0) (c .before .pass .ensures .spreading)
 
 loop-less : tie.Need-loop-less Inv-loop μ-loop
 loop-less c = passed-less (c .before .pass .ensures) (c .if1 .left)

@@ -1,4 +1,4 @@
--- The row of p as it is where the ratio is 1, or multiplied and divided. Assumes nothing.
+-- The row of p as it is where the ratio is 1, or multiplied and divided.
 use Rattle.forest.proofs.spanning.Following.{spread-same, spread-multiply, spread-divide, spread-on}
 use borrow.Author.Needs.{needs}
 use Rattle.forest.proofs.spanning.spread.Statement.{statement}

@@ -1,5 +1,5 @@
--- Parts without a common divisor are the lowest terms. Assumes nothing.
-use Rattle.fraction.specs.Gcd.{coprime-one}
+-- Parts without a common divisor are the lowest terms.
+use Rattle.numbers.specs.Gcd.{coprime-one}
 use Rattle.fraction.specs.Lowest.{lowest-already}
 use Rattle.fraction.proofs.Fraction.from_lowest.Statement.{statement}
 use Rattle.fraction.proofs.Fraction.from_lowest.Tie as tie

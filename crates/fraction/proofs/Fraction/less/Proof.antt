@@ -1,4 +1,4 @@
--- The products fit a word, or the words stand for them. Assumes nothing.
+-- The products fit a word, or the words stand for them.
 use borrow.Author.Needs.{needs}
 use native.Mathlib.Omega.{arith}
 use Rattle.fraction.specs.Lowest.{lessThan, narrow-product}
@@ -12,10 +12,18 @@ narrow-requires-2 : tie.Need-narrow-requires-2
 narrow-requires-2 c κs = search needs
 
 mul-result : tie.Need-mul-result
-mul-result c = omega (arith, narrow-product (c .before .before .before .before .before .narrow .ensures (c .before .before .before .before .if1 .taken) .num) (c .before .before .before .narrow2 .ensures (c .before .before .if2 .taken) .den))
+mul-result c =
+    let at-if1 = c .before .before .before .before in
+    let at-narrow = at-if1 .before in
+    omega (arith, narrow-product (at-narrow .narrow .ensures (at-if1 .if1 .taken) .num) (c .before .before .before .narrow2 .ensures (c .before .before .if2 .taken) .den))
 
 mul-result-2 : tie.Need-mul-result-2
-mul-result-2 c = omega (arith, narrow-product (c .before .before .before .before .before .narrow2 .ensures (c .before .before .before .before .if2 .taken) .num) (c .before .before .before .before .before .before .before .narrow .ensures (c .before .before .before .before .before .before .if1 .taken) .den))
+mul-result-2 c =
+    let at-if2 = c .before .before .before .before in
+    let at-narrow2 = at-if2 .before in
+    let at-if1 = at-narrow2 .before in
+    let at-narrow = at-if1 .before in
+    omega (arith, narrow-product (at-narrow2 .narrow2 .ensures (at-if2 .if2 .taken) .num) (at-narrow .narrow .ensures (at-if1 .if1 .taken) .den))
 
 returns : tie.Need-returns
 unfolding lessThan

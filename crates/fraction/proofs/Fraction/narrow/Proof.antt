@@ -1,4 +1,4 @@
--- Both tests hold where it answers true. Assumes nothing.
+-- Both tests hold where it returns true.
 use mathlib.Core.Path.{sym}
 use mathlib.Core.Bool.{true≢false}
 use borrow.Author.Needs.{needs}

@@ -1,7 +1,7 @@
--- 0 and 1 are the constants; parts without a common divisor stay; others are divided by their greatest common divisor, which is above zero. Assumes nothing.
+-- 0 and 1 are the constants; parts without a common divisor stay; others are divided by their greatest common divisor, which is above zero.
 use borrow.Author.Needs.{needs}
 use mathlib.Core.Path.{_∙_, sym}
-use Rattle.fraction.specs.Gcd.{gcd-positive, gcd-one}
+use Rattle.numbers.specs.Gcd.{gcd-positive, gcd-one}
 use Rattle.fraction.specs.Lowest.{lowestTerms, lowest-already, lowest-zero, lowest-one}
 use Rattle.fraction.proofs.Fraction.reduced.Statement.{statement}
 use Rattle.fraction.proofs.Fraction.reduced.Tie as tie

@@ -1,9 +1,9 @@
--- The greatest common divisor of the two numbers stays, and the second falls. Assumes nothing.
+-- The greatest common divisor of the two numbers stays, and the second falls.
 use mathlib.Core.Path.{_≡_, sym, ap, _∙_}
 use native.Mathlib.Omega.{arith}
 use native.Mathlib.Nat.{mod-lt}
 use borrow.Author.Needs.{needs}
-use Rattle.fraction.specs.Gcd.{gcd, gcd-zero, gcd-rest}
+use Rattle.numbers.specs.Gcd.{gcd, gcd-zero, gcd-rest}
 use Rattle.fraction.proofs.euclid.greatest_common_divisor.Statement.{statement}
 use Rattle.fraction.proofs.euclid.greatest_common_divisor.Tie as tie
 

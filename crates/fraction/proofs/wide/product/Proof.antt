@@ -1,4 +1,4 @@
--- No column overflows, and the columns make up the product. Assumes nothing.
+-- No column overflows, and the columns make up the product.
 use mathlib.Core.Path.{refl}
 use native.Mathlib.Omega.{arith}
 use borrow.Author.Needs.{needs}

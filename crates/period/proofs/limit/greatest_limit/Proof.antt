@@ -1,17 +1,21 @@
--- `period::limit::greatest_limit` meets its contract. The invariant: greatest is the rate limit of port, the first with the greatest among the first i ports. The measure is how many ports are left. Assumes nothing.
+-- `period::limit::greatest_limit` meets its contract. The invariant: greatest is the rate limit of port, the first with the greatest among the first i ports. The measure is how many ports are left.
 use mathlib.Core.Logic.{⊎-elim}
 use Prim.Native.Nat.{_-_}
 use lib.ListN.{length}
+use Rattle.table.specs.Slices.{portsOf}
+use Rattle.period.specs.Edges.{limitsOf}
+use Rattle.period.proofs.limit.Read.{has-limit}
+use Rattle.period.proofs.limit.Leading.{Leading, leading-first, leading-new, leading-kept, leading-last}
 use borrow.Author.Needs.{needs}
-use Rattle.period.proofs.limit.Leading.{Leading, has-limit, leading-first, leading-new, leading-kept, leading-last}
 use Rattle.period.proofs.limit.greatest_limit.Statement.{statement}
 use Rattle.period.proofs.limit.greatest_limit.Tie as tie
 
 abbrev Inv-loop : tie.InvT-loop
-Inv-loop ports limits port₀ greatest₀ i₀ port greatest i = Leading ports limits i port greatest
+Inv-loop ports weights members port₀ greatest₀ i₀ port greatest i =
+    Leading members (limitsOf (portsOf ports) weights) i port greatest
 
 abbrev μ-loop : tie.MeasureT-loop
-μ-loop ports limits port₀ greatest₀ i₀ port greatest i = length ports - i
+μ-loop ports weights members port₀ greatest₀ i₀ port greatest i = length members - i
 
 shared-slice-read-port : tie.Need-shared-slice-read-port Inv-loop μ-loop
 shared-slice-read-port c = search needs
@@ -49,7 +53,7 @@ loop-less c = search needs
 loop-again : tie.Need-loop-again Inv-loop μ-loop
 loop-again c =
     let turn = c .before .before .before .before in
-    let asked = turn .before .before .before .before .before .before .pre in
+    let asked = turn .before .before .before .before .before .before .pre .1 in
     let led = turn .before .loop .inv in
     let more = turn .loop-test .taken in
     ⊎-elim

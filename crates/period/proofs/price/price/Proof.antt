@@ -1,109 +1,62 @@
--- Each turn of the loop stores the four numbers of one edge more. Assumes nothing.
+-- Each turn of the loop stores the four numbers of one edge more.
 use Prim.Native.Nat.{_-_}
-use lib.ListN.{length-set}
-use borrow.Author.Needs.{needs}
+use lib.ListN.{length, length-set}
+use Rattle.table.specs.Slices.{linksOf}
+use Rattle.period.specs.Edges.{edgesOf}
+use Rattle.period.specs.EdgesLaws.{edges-count, edge-readable}
 use Rattle.period.proofs.price.Filled.{Filled, filled-none, filled-small, filled-on, filled-all}
+use borrow.Author.Needs.{needs}
 use Rattle.period.proofs.price.price.Statement.{statement}
 use Rattle.period.proofs.price.price.Tie as tie
 
 abbrev Inv-loop : tie.InvT-loop
-Inv-loop edges period costs₀ count k₀ costs k = Filled edges (period .num) (period .den) costs₀ costs k
+Inv-loop links weights numbers period costs₀ k₀ costs k =
+    Filled (edgesOf (linksOf links) weights numbers) (length numbers) (period .num) (period .den) costs₀ costs k
 
 abbrev μ-loop : tie.MeasureT-loop
-μ-loop edges period costs₀ count k₀ costs k = count - k
+μ-loop links weights numbers period costs₀ k₀ costs k = length numbers - k
 
 loop-holds : tie.Need-loop-holds Inv-loop μ-loop
-loop-holds c = search (filled-none, needs)
+loop-holds c = search (filled-none, edges-count, needs)
 
-mul-at : tie.Need-mul-at Inv-loop μ-loop
-mul-at c = search needs
-
-add-costs : tie.Need-add-costs Inv-loop μ-loop
-add-costs c = search needs
-
-mul-costs : tie.Need-mul-costs Inv-loop μ-loop
-mul-costs c = search needs
-
-shared-slice-read-costs : tie.Need-shared-slice-read-costs Inv-loop μ-loop
-shared-slice-read-costs c = search needs
-
-add-t15 : tie.Need-add-t15 Inv-loop μ-loop
-add-t15 c = search needs
-
-mul-t16 : tie.Need-mul-t16 Inv-loop μ-loop
-mul-t16 c = search needs
-
-shared-slice-read-t18 : tie.Need-shared-slice-read-t18 Inv-loop μ-loop
-shared-slice-read-t18 c = search needs
-
-add-t20 : tie.Need-add-t20 Inv-loop μ-loop
-add-t20 c = search needs
-
-mul-t21 : tie.Need-mul-t21 Inv-loop μ-loop
-mul-t21 c = search needs
-
-shared-slice-read-t23 : tie.Need-shared-slice-read-t23 Inv-loop μ-loop
-shared-slice-read-t23 c = search needs
-
-add-t24 : tie.Need-add-t24 Inv-loop μ-loop
-add-t24 c = search needs
-
-mul-t25 : tie.Need-mul-t25 Inv-loop μ-loop
-mul-t25 c = search needs
-
-shared-slice-read-t27 : tie.Need-shared-slice-read-t27 Inv-loop μ-loop
-shared-slice-read-t27 c = search needs
+at-requires : tie.Need-at-requires Inv-loop μ-loop
+at-requires c κs = search (edge-readable, needs)
 
 delay-requires : tie.Need-delay-requires Inv-loop μ-loop
 delay-requires c κs = search (filled-small, needs)
 
-mul-to : tie.Need-mul-to Inv-loop μ-loop
-mul-to c = search needs
+mul-at : tie.Need-mul-at Inv-loop μ-loop
+mul-at c = search needs
 
-mul-costs-2 : tie.Need-mul-costs-2 Inv-loop μ-loop
-mul-costs-2 c = search needs
-
-shared-slice-read-costs-2 : tie.Need-shared-slice-read-costs-2 Inv-loop μ-loop
-shared-slice-read-costs-2 c = search needs
-
-mul-costs-3 : tie.Need-mul-costs-3 Inv-loop μ-loop
-mul-costs-3 c = search needs
+mul-costs : tie.Need-mul-costs Inv-loop μ-loop
+mul-costs c = search needs
 
 slice-write-costs : tie.Need-slice-write-costs Inv-loop μ-loop
 slice-write-costs c = search needs
 
-add-costs-2 : tie.Need-add-costs-2 Inv-loop μ-loop
-add-costs-2 c = search needs
+add-costs : tie.Need-add-costs Inv-loop μ-loop
+add-costs c = search needs
 
-mul-costs-4 : tie.Need-mul-costs-4 Inv-loop μ-loop
-mul-costs-4 c = search needs
-
-shared-slice-read-costs-3 : tie.Need-shared-slice-read-costs-3 Inv-loop μ-loop
-shared-slice-read-costs-3 c = search needs
-
-add-costs-3 : tie.Need-add-costs-3 Inv-loop μ-loop
-add-costs-3 c = search needs
-
-mul-costs-5 : tie.Need-mul-costs-5 Inv-loop μ-loop
-mul-costs-5 c = search needs
+mul-costs-2 : tie.Need-mul-costs-2 Inv-loop μ-loop
+mul-costs-2 c = search needs
 
 slice-write-costs-2 : tie.Need-slice-write-costs-2 Inv-loop μ-loop
 slice-write-costs-2 c = simp length-set (search needs)
 
-add-costs-4 : tie.Need-add-costs-4 Inv-loop μ-loop
-add-costs-4 c = search needs
+add-costs-2 : tie.Need-add-costs-2 Inv-loop μ-loop
+add-costs-2 c = search needs
 
-mul-costs-6 : tie.Need-mul-costs-6 Inv-loop μ-loop
-mul-costs-6 c = search needs
+mul-costs-3 : tie.Need-mul-costs-3 Inv-loop μ-loop
+mul-costs-3 c = search needs
 
 slice-write-costs-3 : tie.Need-slice-write-costs-3 Inv-loop μ-loop
 slice-write-costs-3 c = simp length-set (search needs)
 
-add-costs-5 : tie.Need-add-costs-5 Inv-loop μ-loop
-add-costs-5 c = search needs
+add-costs-3 : tie.Need-add-costs-3 Inv-loop μ-loop
+add-costs-3 c = search needs
 
-mul-costs-7 : tie.Need-mul-costs-7 Inv-loop μ-loop
-mul-costs-7 c = search needs
+mul-costs-4 : tie.Need-mul-costs-4 Inv-loop μ-loop
+mul-costs-4 c = search needs
 
 slice-write-costs-4 : tie.Need-slice-write-costs-4 Inv-loop μ-loop
 slice-write-costs-4 c = simp length-set (search needs)
@@ -116,9 +69,6 @@ loop-less c = search needs
 
 loop-again : tie.Need-loop-again Inv-loop μ-loop
 loop-again c = search (filled-on, needs)
-
-mul-result : tie.Need-mul-result Inv-loop μ-loop
-mul-result c = search needs
 
 same-length : tie.Need-same-length Inv-loop μ-loop
 same-length c = search needs
@@ -133,40 +83,22 @@ price-spec =
     Inv-loop
     μ-loop
     loop-holds
-    mul-at
-    add-costs
-    mul-costs
-    shared-slice-read-costs
-    add-t15
-    mul-t16
-    shared-slice-read-t18
-    add-t20
-    mul-t21
-    shared-slice-read-t23
-    add-t24
-    mul-t25
-    shared-slice-read-t27
+    at-requires
     delay-requires
-    mul-to
-    mul-costs-2
-    shared-slice-read-costs-2
-    mul-costs-3
+    mul-at
+    mul-costs
     slice-write-costs
-    add-costs-2
-    mul-costs-4
-    shared-slice-read-costs-3
-    add-costs-3
-    mul-costs-5
+    add-costs
+    mul-costs-2
     slice-write-costs-2
-    add-costs-4
-    mul-costs-6
+    add-costs-2
+    mul-costs-3
     slice-write-costs-3
-    add-costs-5
-    mul-costs-7
+    add-costs-3
+    mul-costs-4
     slice-write-costs-4
     add-k
     loop-less
     loop-again
-    mul-result
     same-length
     returns)

@@ -1,72 +1,86 @@
--- Each a/b tried is a limit that no smaller one serves, and the next is greater. Assumes nothing.
-use lib.ListN.{length}
+-- Each a/b tried is a limit that no smaller one serves, and the next is greater.
+use mathlib.Core.Path.{refl}
+use native.Mathlib.Omega.{arith}
+use borrow.Author.Needs.{needs}
+use Rattle.table.specs.Slices.{portsOf, linksOf}
+use Rattle.period.specs.Component.{mostRate}
+use Rattle.period.specs.Edges.{limitsOf, edgesOf}
+use Rattle.period.specs.EdgesLaws.{edges-count}
 use Rattle.period.proofs.search.Searching.{Searching, searching-first, searching-tries, searching-settled, searching-sums, searching-within, searching-blocked, searching-gains, searching-falls, searching-next}
 use Rattle.period.proofs.search.Falls.{left}
-use Rattle.period.specs.Component.{mostRate}
-use borrow.Author.Needs.{needs}
-use mathlib.Core.Path.{refl, ap}
-use native.Mathlib.Omega.{arith}
 use Rattle.period.proofs.search.least_period.Statement.{statement}
 use Rattle.period.proofs.search.least_period.Tie as tie
 
 abbrev Inv-loop : tie.InvT-loop
-Inv-loop ports limits edges rows₀ costs₀ starts₀ n none period₀ floor₀ limit₀ rows costs starts period floor limit =
-    Searching ports limits edges rows₀ costs₀ starts₀ rows costs starts period floor limit
+Inv-loop ports links weights members numbers work₀ n none period₀ floor₀ limit₀ work period floor limit =
+    Searching members (limitsOf (portsOf ports) weights) (edgesOf (linksOf links) weights numbers) numbers work₀ work period floor limit
 
 abbrev μ-loop : tie.MeasureT-loop
-μ-loop ports limits edges rows₀ costs₀ starts₀ n none period₀ floor₀ limit₀ rows costs starts period floor limit =
+μ-loop ports links weights members numbers work₀ n none period₀ floor₀ limit₀ work period floor limit =
     left mostRate (period .num) (period .den)
 
 loop-holds : tie.Need-loop-holds Inv-loop μ-loop
-loop-holds c = searching-first _ (c .before .before .before .before .before .before .before .pre .0) (c .before .before .before .before .before .before .before .pre .1 .0) (c .before .before .before .before .before .before .before .pre .1 .1) (record { ordered = omega arith; within = omega arith; long = refl })
+loop-holds c =
+    let entry = c .before .before .before .before .before .before in
+    searching-first _ (entry .pre .1 .0) (search (edges-count, needs)) (entry .pre .1 .1 .0) (entry .pre .1 .1 .1) (record { ordered = omega arith; within = omega arith; long = refl })
 
 slice-aggregate-try-at : tie.Need-slice-aggregate-try-at Inv-loop μ-loop
 slice-aggregate-try-at c = search needs
 
 try-at-requires : tie.Need-try-at-requires Inv-loop μ-loop
-try-at-requires c κs = searching-tries (c .before .before .before .loop .inv) refl
+try-at-requires c κs =
+    let entry = c .before .before .before .before .before .before .before .before .before in
+    (entry .pre .0, searching-tries (c .before .before .loop .inv) refl)
 
 enum-known-r : tie.Need-enum-known-r Inv-loop μ-loop
 enum-known-r c = search needs
 
-row-into-requires : tie.Need-row-into-requires Inv-loop μ-loop
-row-into-requires c κs = (omega (arith, (c .before .before .before .before .before .before .before .before .before .before .before .before .before .before .loop .inv) .room .rows-room, rw (c .before .before .before .r .given .1) at (c .before .before .before .before .before .before .before .before .before .before .try-at .ensures .0), c .before .before .before .before .before .before .before .before .before .before .try-at .ensures .1), (c .before .before .before .before .before .before .before .before .before .before .before .before .before .before .loop .inv) .room .starts-room)
-
-add-t32 : tie.Need-add-t32 Inv-loop μ-loop
-add-t32 c = omega (arith, rw (c .before .before .before .before .before .before .r .given .1) at (c .before .before .before .before .before .before .before .before .before .before .before .before .before .try-at .ensures .0))
+add-t25 : tie.Need-add-t25 Inv-loop μ-loop
+add-t25 c =
+    let at-try-at = c .before .before .before .before .before .before in
+    omega (arith, rw (c .before .r .given .1) at (at-try-at .try-at .ensures .0))
 
 same-length : tie.Need-same-length Inv-loop μ-loop
-same-length c = omega (arith, (c .before .before .before .before .before .before .before .before .before .before .before .before .before .before .before .before .before .loop .inv), c .before .before .before .before .before .before .before .before .before .before .before .before .before .try-at .ensures .1)
-
-same-length-2 : tie.Need-same-length-2 Inv-loop μ-loop
-same-length-2 c = omega (arith, (c .before .before .before .before .before .before .before .before .before .before .before .before .before .before .before .before .before .loop .inv), c .before .before .before .before .before .before .before .before .before .before .before .before .before .try-at .ensures .1)
-
-same-length-3 : tie.Need-same-length-3 Inv-loop μ-loop
-same-length-3 c = omega (arith, c .before .before .before .before .before .before .before .before .before .before .before .before .before .before .before .before .before .loop .inv .room .starts-room, ap length (c .before .before .before .before .before .before .before .before .before .before .before .before .before .before .before .before .before .loop .inv .unchanged))
+same-length c =
+    let at-try-at = c .before .before .before .before .before .before in
+    let at-loop = at-try-at .before .before .before in
+    omega (arith, at-loop .loop .inv, at-try-at .try-at .ensures .1)
 
 returns : tie.Need-returns Inv-loop μ-loop
-returns c = (searching-settled (c .before .before .before .before .before .before .before .before .before .before .before .before .before .before .before .before .before .loop .inv) _ (rw (c .before .before .before .before .before .before .r .given .1) at (c .before .before .before .before .before .before .before .before .before .before .before .before .before .try-at .ensures .0)) (c .before .before .row-into .ensures), (omega (arith, (c .before .before .before .before .before .before .before .before .before .before .before .before .before .before .before .before .before .loop .inv), c .before .before .before .before .before .before .before .before .before .before .before .before .before .try-at .ensures .1), (omega (arith, (c .before .before .before .before .before .before .before .before .before .before .before .before .before .before .before .before .before .loop .inv), c .before .before .before .before .before .before .before .before .before .before .before .before .before .try-at .ensures .1), omega (arith, c .before .before .before .before .before .before .before .before .before .before .before .before .before .before .before .before .before .loop .inv .room .starts-room, ap length (c .before .before .before .before .before .before .before .before .before .before .before .before .before .before .before .before .before .loop .inv .unchanged)))))
+returns c =
+    let at-try-at = c .before .before .before .before .before .before in
+    let at-loop = at-try-at .before .before .before in
+    (searching-settled (at-loop .loop .inv) _ (rw (c .before .r .given .1) at (at-try-at .try-at .ensures .0)), omega (arith, at-loop .loop .inv, at-try-at .try-at .ensures .1))
 
 enum-known-part : tie.Need-enum-known-part Inv-loop μ-loop
 enum-known-part c = search needs
 
 cycle-sums-requires : tie.Need-cycle-sums-requires Inv-loop μ-loop
-cycle-sums-requires c κs = (searching-sums (c .before .before .before .before .before .before .before .before .before .before .before .before .loop .inv) (rw (c .before .part .given .1) at (c .before .before .before .before .before .before .before .before .try-at .ensures .0)), searching-within (c .before .before .before .before .before .before .before .before .before .before .before .before .loop .inv) (rw (c .before .part .given .1) at (c .before .before .before .before .before .before .before .before .try-at .ensures .0)) (c .before .before .before .before .before .before .before .before .try-at .ensures .1 .of-steps))
+cycle-sums-requires c κs =
+    let at-try-at = c .before .before .before .before .before .before in
+    let at-loop = at-try-at .before .before .before in
+    let entry = at-loop .before .before .before .before .before .before .before in
+    (entry .pre .0, (searching-sums (at-loop .loop .inv) (rw (c .before .part .given .1) at (at-try-at .try-at .ensures .0)), searching-within (at-loop .loop .inv) (rw (c .before .part .given .1) at (at-try-at .try-at .ensures .0)) (at-try-at .try-at .ensures .1 .of-steps)))
 
-same-length-4 : tie.Need-same-length-4 Inv-loop μ-loop
-same-length-4 c = omega (arith, (c .before .before .before .before .before .before .before .before .before .before .before .before .before .before .before .loop .inv), c .before .before .before .before .before .before .before .before .before .before .before .try-at .ensures .1)
-
-same-length-5 : tie.Need-same-length-5 Inv-loop μ-loop
-same-length-5 c = omega (arith, (c .before .before .before .before .before .before .before .before .before .before .before .before .before .before .before .loop .inv), c .before .before .before .before .before .before .before .before .before .before .before .try-at .ensures .1)
-
-same-length-6 : tie.Need-same-length-6 Inv-loop μ-loop
-same-length-6 c = omega (arith, ap length (c .before .before .before .before .before .before .before .before .before .before .before .before .before .before .before .loop .inv .unchanged))
+same-length-2 : tie.Need-same-length-2 Inv-loop μ-loop
+same-length-2 c =
+    let at-try-at = c .before .before .before .before .before .before .before .before .before in
+    let at-loop = at-try-at .before .before .before in
+    omega (arith, at-loop .loop .inv, at-try-at .try-at .ensures .1)
 
 returns-2 : tie.Need-returns-2 Inv-loop μ-loop
-returns-2 c = (searching-blocked (c .before .before .before .before .before .before .before .before .before .before .before .before .before .before .before .loop .inv) (rw (c .before .before .before .before .part .given .1) at (c .before .before .before .before .before .before .before .before .before .before .before .try-at .ensures .0)) (c .before .before .cycle-sums .ensures) (c .before .before .before .before .before .before .before .before .before .before .before .try-at .ensures .1 .of-steps) (search needs), (omega (arith, (c .before .before .before .before .before .before .before .before .before .before .before .before .before .before .before .loop .inv), c .before .before .before .before .before .before .before .before .before .before .before .try-at .ensures .1), (omega (arith, (c .before .before .before .before .before .before .before .before .before .before .before .before .before .before .before .loop .inv), c .before .before .before .before .before .before .before .before .before .before .before .try-at .ensures .1), omega (arith, ap length (c .before .before .before .before .before .before .before .before .before .before .before .before .before .before .before .loop .inv .unchanged)))))
+returns-2 c =
+    let at-part = c .before .before .before .before in
+    let at-try-at = at-part .before .before .before .before .before in
+    let at-loop = at-try-at .before .before .before in
+    (searching-blocked (at-loop .loop .inv) (rw (at-part .part .given .1) at (at-try-at .try-at .ensures .0)) (c .before .before .cycle-sums .ensures) (at-try-at .try-at .ensures .1 .of-steps) (search needs), omega (arith, at-loop .loop .inv, at-try-at .try-at .ensures .1))
 
 sub-reduced : tie.Need-sub-reduced Inv-loop μ-loop
-sub-reduced c = omega (arith, searching-gains (c .before .before .before .before .before .before .before .before .before .before .before .before .before .before .before .before .loop .inv) (rw (c .before .before .before .before .before .part .given .1) at (c .before .before .before .before .before .before .before .before .before .before .before .before .try-at .ensures .0)) (c .before .before .before .cycle-sums .ensures) (search needs))
+sub-reduced c =
+    let at-part = c .before .before .before .before .before in
+    let at-try-at = at-part .before .before .before .before .before in
+    let at-loop = at-try-at .before .before .before in
+    omega (arith, searching-gains (at-loop .loop .inv) (rw (at-part .part .given .1) at (at-try-at .try-at .ensures .0)) (c .before .before .before .cycle-sums .ensures) (search needs))
 
 sub-reduced-2 : tie.Need-sub-reduced-2 Inv-loop μ-loop
 sub-reduced-2 c = search needs
@@ -75,10 +89,20 @@ reduced-requires : tie.Need-reduced-requires Inv-loop μ-loop
 reduced-requires c κs = search needs
 
 loop-less : tie.Need-loop-less Inv-loop μ-loop
-loop-less c = searching-falls (c .before .before .before .before .before .before .before .before .before .before .before .before .before .before .before .before .before .before .loop .inv) (rw (c .before .before .before .before .before .before .before .part .given .1) at (c .before .before .before .before .before .before .before .before .before .before .before .before .before .before .try-at .ensures .0)) (c .before .before .before .before .before .cycle-sums .ensures) (search needs) (c .reduced .ensures)
+loop-less c =
+    let at-cycle-sums = c .before .before .before .before .before in
+    let at-part = at-cycle-sums .before .before in
+    let at-try-at = at-part .before .before .before .before .before in
+    let at-loop = at-try-at .before .before .before in
+    searching-falls (at-loop .loop .inv) (rw (at-part .part .given .1) at (at-try-at .try-at .ensures .0)) (at-cycle-sums .cycle-sums .ensures) (search needs) (c .reduced .ensures)
 
 loop-again : tie.Need-loop-again Inv-loop μ-loop
-loop-again c = searching-next (c .before .before .before .before .before .before .before .before .before .before .before .before .before .before .before .before .before .before .loop .inv) (rw (c .before .before .before .before .before .before .before .part .given .1) at (c .before .before .before .before .before .before .before .before .before .before .before .before .before .before .try-at .ensures .0)) (c .before .before .before .before .before .cycle-sums .ensures) (search needs) (c .reduced .ensures) (c .before .before .before .before .before .before .before .before .before .before .before .before .before .before .try-at .ensures .1 .of-steps) (c .before .before .before .before .before .before .before .before .before .before .before .before .before .before .try-at .ensures .1 .of-rows) (c .before .before .before .before .before .before .before .before .before .before .before .before .before .before .try-at .ensures .1 .of-costs)
+loop-again c =
+    let at-cycle-sums = c .before .before .before .before .before in
+    let at-part = at-cycle-sums .before .before in
+    let at-try-at = at-part .before .before .before .before .before in
+    let at-loop = at-try-at .before .before .before in
+    searching-next (at-loop .loop .inv) (rw (at-part .part .given .1) at (at-try-at .try-at .ensures .0)) (at-cycle-sums .cycle-sums .ensures) (search needs) (c .reduced .ensures) (at-try-at .try-at .ensures .1 .of-steps) (at-try-at .try-at .ensures .1 .of-work)
 
 pub least-period-spec : {M : Type 1} → statement M
 least-period-spec =
@@ -90,17 +114,12 @@ least-period-spec =
     slice-aggregate-try-at
     try-at-requires
     enum-known-r
-    row-into-requires
-    add-t32
+    add-t25
     same-length
-    same-length-2
-    same-length-3
     returns
     enum-known-part
     cycle-sums-requires
-    same-length-4
-    same-length-5
-    same-length-6
+    same-length-2
     returns-2
     sub-reduced
     sub-reduced-2

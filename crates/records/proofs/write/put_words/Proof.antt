@@ -1,10 +1,10 @@
--- What the loop leaves to store, put into the tail as it is now, makes the words of all the numbers. Assumes nothing.
+-- What the loop leaves to store, put into the tail as it is now, makes the words of all the numbers.
 use Prim.Native.Nat.{_+_, _*_, _-_}
 use mathlib.Core.Path.{refl}
 use native.Mathlib.Omega.{arith}
 use lib.ListN.{length, drop}
 use borrow.Author.Needs.{needs}
-use Rattle.records.specs.Bytes.{words}
+use Rattle.specification.specs.Bytes.{words}
 use Rattle.records.proofs.write.Laws.{Left, left-all, word-less, word-none}
 use Rattle.records.proofs.write.put_words.Statement.{statement}
 use Rattle.records.proofs.write.put_words.Tie as tie
@@ -18,20 +18,20 @@ abbrev μ-loop : tie.MeasureT-loop
 loop-holds : tie.Need-loop-holds Inv-loop μ-loop
 loop-holds c = left-all (omega arith) refl
 
-mul-put : tie.Need-mul-put Inv-loop μ-loop
-mul-put c = search needs
+mul-put-number : tie.Need-mul-put-number Inv-loop μ-loop
+mul-put-number c = search needs
 
-add-put : tie.Need-add-put Inv-loop μ-loop
-add-put c = search needs
+add-put-number : tie.Need-add-put-number Inv-loop μ-loop
+add-put-number c = search needs
 
-mul-put-2 : tie.Need-mul-put-2 Inv-loop μ-loop
-mul-put-2 c = search needs
+mul-put-number-2 : tie.Need-mul-put-number-2 Inv-loop μ-loop
+mul-put-number-2 c = search needs
 
-shared-slice-read-put : tie.Need-shared-slice-read-put Inv-loop μ-loop
-shared-slice-read-put c = search needs
+shared-slice-read-put-number : tie.Need-shared-slice-read-put-number Inv-loop μ-loop
+shared-slice-read-put-number c = search needs
 
-put-requires : tie.Need-put-requires Inv-loop μ-loop
-put-requires c κs = search needs
+put-number-requires : tie.Need-put-number-requires Inv-loop μ-loop
+put-number-requires c κs = search needs
 
 add-i : tie.Need-add-i Inv-loop μ-loop
 add-i c = search needs
@@ -40,7 +40,10 @@ loop-less : tie.Need-loop-less Inv-loop μ-loop
 loop-less c = search needs
 
 loop-again : tie.Need-loop-again Inv-loop μ-loop
-loop-again c = word-less _ _ _ _ _ (c .before .before .before .before .before .loop-test .taken) (c .before .before .put .ensures) (c .before .before .before .before .before .before .loop .inv)
+loop-again c =
+    let at-loop-test = c .before .before .before .before .before in
+    let at-loop = at-loop-test .before in
+    word-less _ _ _ _ _ (at-loop-test .loop-test .taken) (c .before .before .put-number .ensures) (at-loop .loop .inv)
 
 same-length : tie.Need-same-length Inv-loop μ-loop
 same-length c = search needs
@@ -55,11 +58,11 @@ put-words-spec =
     Inv-loop
     μ-loop
     loop-holds
-    mul-put
-    add-put
-    mul-put-2
-    shared-slice-read-put
-    put-requires
+    mul-put-number
+    add-put-number
+    mul-put-number-2
+    shared-slice-read-put-number
+    put-number-requires
     add-i
     loop-less
     loop-again

@@ -1,6 +1,6 @@
--- The record is what `write_numbers` writes at kind 19. Assumes nothing.
+-- The record is what `write_numbers` writes at kind 19.
 use borrow.Author.Needs.{needs}
-use Rattle.records.specs.Answer.{cycleAnswer}
+use Rattle.specification.specs.Bytes.{cycleAnswer}
 use Rattle.records.proofs.write.write_cycle.Statement.{statement}
 use Rattle.records.proofs.write.write_cycle.Tie as tie
 

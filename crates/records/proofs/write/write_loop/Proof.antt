@@ -1,6 +1,6 @@
--- The record is what `write_numbers` writes at kind 18. Assumes nothing.
+-- The record is what `write_numbers` writes at kind 18.
 use borrow.Author.Needs.{needs}
-use Rattle.records.specs.Answer.{loopAnswer}
+use Rattle.specification.specs.Bytes.{loopAnswer}
 use Rattle.records.proofs.write.write_loop.Statement.{statement}
 use Rattle.records.proofs.write.write_loop.Tie as tie
 

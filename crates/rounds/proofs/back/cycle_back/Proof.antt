@@ -1,6 +1,6 @@
--- `period::back::cycle_back` meets its contract. The invariant: the steps from r on are a trail through ports that are all marked. The measure is r. Assumes nothing.
+-- `period::back::cycle_back` meets its contract. The invariant: the steps from r on are a trail through ports that are all marked. The measure is r.
 use borrow.Author.Needs.{needs}
-use Rattle.rounds.proofs.back.Ends.{course-found, course-over}
+use Rattle.rounds.proofs.back.CourseEnd.{course-found, course-over}
 use Rattle.rounds.proofs.back.Step.{step-low, step-asks, step-back}
 use Rattle.rounds.proofs.back.Course.{Course, course-on, port-low, course-first}
 use native.Mathlib.Omega.{arith}

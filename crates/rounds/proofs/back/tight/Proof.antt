@@ -1,4 +1,4 @@
--- `period::back::tight` meets its contract. The invariant: an edge from k on is tight. The measure is how many edges are left. Assumes nothing.
+-- `period::back::tight` meets its contract. The invariant: an edge from k on is tight. The measure is how many edges are left.
 use mathlib.Core.Logic.{⊎-elim}
 use borrow.Author.Needs.{needs}
 use Rattle.rounds.proofs.back.Ahead.{Ahead, ahead-first, ahead-range, ahead-other, ahead-loose}
@@ -57,7 +57,10 @@ mul-if2 : tie.Need-mul-if2 Inv-loop μ-loop
 mul-if2 c = let f = ahead-range (c .before .before .before .loop .inv) (c .before .before .before .before .before .pre) in omega arith
 
 shared-slice-read-if2 : tie.Need-shared-slice-read-if2 Inv-loop μ-loop
-shared-slice-read-if2 c = let f = ahead-range (c .before .before .before .before .loop .inv) (c .before .before .before .before .before .before .pre) in omega arith
+shared-slice-read-if2 c =
+    let at-loop = c .before .before .before .before in
+    let entry = at-loop .before .before in
+    let f = ahead-range (at-loop .loop .inv) (entry .pre) in omega arith
 
 add-if2-2 : tie.Need-add-if2-2 Inv-loop μ-loop
 add-if2-2 c = search needs
@@ -69,7 +72,10 @@ shared-slice-read-if2-2 : tie.Need-shared-slice-read-if2-2 Inv-loop μ-loop
 shared-slice-read-if2-2 c = search needs
 
 add-if2-3 : tie.Need-add-if2-3 Inv-loop μ-loop
-add-if2-3 c = let f = ahead-range (c .before .before .before .before .before .loop .inv) (c .before .before .before .before .before .before .before .pre) in omega arith
+add-if2-3 c =
+    let at-loop = c .before .before .before .before .before in
+    let entry = at-loop .before .before in
+    let f = ahead-range (at-loop .loop .inv) (entry .pre) in omega arith
 
 add-if2-4 : tie.Need-add-if2-4 Inv-loop μ-loop
 add-if2-4 c = search needs
@@ -81,7 +87,10 @@ shared-slice-read-if2-3 : tie.Need-shared-slice-read-if2-3 Inv-loop μ-loop
 shared-slice-read-if2-3 c = search needs
 
 add-if2-5 : tie.Need-add-if2-5 Inv-loop μ-loop
-add-if2-5 c = let f = ahead-range (c .before .before .before .before .before .before .loop .inv) (c .before .before .before .before .before .before .before .before .pre) in omega arith
+add-if2-5 c =
+    let at-loop = c .before .before .before .before .before .before in
+    let entry = at-loop .before .before in
+    let f = ahead-range (at-loop .loop .inv) (entry .pre) in omega arith
 
 returns : tie.Need-returns Inv-loop μ-loop
 returns c = search needs

@@ -1,4 +1,4 @@
--- Row 0 is the array of zeros. Assumes nothing.
+-- Row 0 is the array of zeros.
 use native.Mathlib.Omega.{arith}
 use borrow.Author.Needs.{needs}
 use lib.ListN.{length-take}

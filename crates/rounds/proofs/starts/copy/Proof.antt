@@ -1,4 +1,4 @@
--- The loop copies from the front. Assumes nothing.
+-- The loop copies from the front.
 use Prim.Native.Nat.{_-_}
 use borrow.Author.Needs.{needs}
 use lib.ListN.{length}

@@ -1,4 +1,4 @@
--- None of the ports passed grew. The measure is how many are left. Assumes nothing.
+-- None of the ports passed grew. The measure is how many are left.
 use Prim.Native.Nat.{_-_}
 use Rattle.rounds.proofs.starts.Flat.{Flat, flat-none, flat-on, flat-grown, flat-all}
 use borrow.Author.Needs.{needs}

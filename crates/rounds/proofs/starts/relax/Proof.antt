@@ -1,4 +1,4 @@
--- The edge asks for no more than its receiver has, or raises it. Assumes nothing.
+-- The edge asks for no more than its receiver has, or raises it.
 use native.Mathlib.Omega.{arith}
 use Rattle.rounds.proofs.starts.Relaxed.{raise-same, raise-more}
 use borrow.Author.Needs.{needs}

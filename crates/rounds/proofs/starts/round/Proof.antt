@@ -1,4 +1,4 @@
--- Each turn of the loop relaxes one edge more. Assumes nothing.
+-- Each turn of the loop relaxes one edge more.
 use Prim.Native.Nat.{_-_}
 use Rattle.rounds.proofs.starts.Partly.{Partly, partly-none, partly-ready, partly-on, partly-all}
 use borrow.Author.Needs.{needs}
@@ -10,9 +10,6 @@ Inv-loop old new₀ costs edges k₀ new k = Partly costs old k new
 
 abbrev μ-loop : tie.MeasureT-loop
 μ-loop old new₀ costs edges k₀ new k = edges - k
-
-copy-requires : tie.Need-copy-requires Inv-loop μ-loop
-copy-requires c κs = search needs
 
 loop-holds : tie.Need-loop-holds Inv-loop μ-loop
 loop-holds c = search (partly-none, needs)
@@ -30,7 +27,7 @@ loop-again : tie.Need-loop-again Inv-loop μ-loop
 loop-again c = search (partly-on, needs)
 
 grown-requires : tie.Need-grown-requires Inv-loop μ-loop
-grown-requires c κs = (c .before .before .before .before .before .before .before .before .before .before .pre .0 .ports, c .before .before .loop .inv .long)
+grown-requires c κs = (c .before .before .before .before .before .before .pre .0 .ports, c .before .before .loop .inv .long)
 
 same-length : tie.Need-same-length Inv-loop μ-loop
 same-length c = search needs
@@ -44,7 +41,6 @@ round-spec =
     (tie.spec
     Inv-loop
     μ-loop
-    copy-requires
     loop-holds
     relax-requires
     add-k

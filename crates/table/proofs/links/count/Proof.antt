@@ -1,4 +1,4 @@
--- By the law of the count. Assumes nothing.
+-- By the law of the count.
 use native.Mathlib.Omega.{arith}
 use Rattle.table.specs.SliceLaws.{count-links}
 use Rattle.table.proofs.links.count.Statement.{statement}

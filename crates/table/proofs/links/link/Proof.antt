@@ -1,4 +1,4 @@
--- The numbers at its place are those of the link. Assumes nothing.
+-- The numbers at its place are those of the link.
 use Rattle.table.specs.SliceLaws.{same-link, link-room}
 use Rattle.table.proofs.links.link.Statement.{statement}
 use Rattle.table.proofs.links.link.Tie as tie

@@ -1,5 +1,5 @@
--- By the test. Assumes nothing.
-use Rattle.table.specs.Signed.{back}
+-- By the test.
+use Rattle.specification.specs.Reading.{back}
 use borrow.Author.Tests.{lt-ltb, le-ltb}
 use borrow.Author.Needs.{needs}
 use Rattle.table.proofs.numbers.back_of.Statement.{statement}

@@ -1,5 +1,5 @@
--- By the test. Assumes nothing.
-use Rattle.table.specs.Signed.{forward}
+-- By the test.
+use Rattle.specification.specs.Reading.{forward}
 use borrow.Author.Tests.{lt-ltb, le-ltb}
 use Rattle.table.proofs.numbers.forward_of.Statement.{statement}
 use Rattle.table.proofs.numbers.forward_of.Tie as tie

@@ -1,4 +1,4 @@
--- The numbers at its place are those of the port. Assumes nothing.
+-- The numbers at its place are those of the port.
 use Rattle.table.specs.SliceLaws.{same-port, port-room}
 use Rattle.table.proofs.ports.port.Statement.{statement}
 use Rattle.table.proofs.ports.port.Tie as tie

@@ -1,6 +1,6 @@
--- What fills the slices from each place fills them from the start; the bytes left fall. Assumes nothing.
+-- What fills the slices from each place fills them from the start; the bytes left fall.
 use borrow.Author.Needs.{needs}
-use Rattle.table.proofs.reading.Going.{Going, started, turn, port-fits, link-fits, port-read, link-read, refused, ended}
+use Rattle.table.proofs.reading.Turn.{Going, started, turn, port-fits, link-fits, port-read, link-read, refused, ended}
 use Prim.Native.Nat.{_-_}
 use lib.ListN.{length}
 use mathlib.Core.Path.{refl}
@@ -27,34 +27,68 @@ enum-known-p : tie.Need-enum-known-p Inv-loop μ-loop
 enum-known-p c = search needs
 
 store-requires : tie.Need-store-requires Inv-loop μ-loop
-store-requires c κs = port-fits (turn (c .before .before .before .before .before .loop .inv) (c .before .before .before .before .read-record .ensures) (c .before .before .p .given .1))
+store-requires c κs =
+    let at-read-record = c .before .before .before .before in
+    let at-loop = at-read-record .before in
+    port-fits (turn (at-loop .loop .inv) (at-read-record .read-record .ensures) (c .before .before .p .given .1))
 
 with-port-requires : tie.Need-with-port-requires Inv-loop μ-loop
-with-port-requires c κs = let w = (turn (c .before .before .before .before .before .before .before .before .loop .inv) (c .before .before .before .before .before .before .before .read-record .ensures) (c .before .before .before .before .before .p .given .1)) in (omega (arith, w .told), omega (arith, w .told, w .going .room))
+with-port-requires c κs =
+    let at-p = c .before .before .before .before .before in
+    let at-read-record = at-p .before .before in
+    let at-loop = at-read-record .before in
+    let w = (turn (at-loop .loop .inv) (at-read-record .read-record .ensures) (at-p .p .given .1)) in (omega (arith, w .told), omega (arith, w .told, w .going .room))
 
 loop-less : tie.Need-loop-less Inv-loop μ-loop
-loop-less c = let w = (turn (c .before .before .before .before .before .before .before .before .before .loop .inv) (c .before .before .before .before .before .before .before .before .read-record .ensures) (c .before .before .before .before .before .before .p .given .1)) in omega (arith, w .told)
+loop-less c =
+    let at-p = c .before .before .before .before .before .before in
+    let at-read-record = at-p .before .before in
+    let at-loop = at-read-record .before in
+    let w = (turn (at-loop .loop .inv) (at-read-record .read-record .ensures) (at-p .p .given .1)) in omega (arith, w .told)
 
 loop-again : tie.Need-loop-again Inv-loop μ-loop
-loop-again c = port-read (turn (c .before .before .before .before .before .before .before .before .before .loop .inv) (c .before .before .before .before .before .before .before .before .read-record .ensures) (c .before .before .before .before .before .before .p .given .1)) (c .before .before .before .store .ensures) (c .with-port .ensures)
+loop-again c =
+    let at-p = c .before .before .before .before .before .before in
+    let at-read-record = at-p .before .before in
+    let at-loop = at-read-record .before in
+    port-read (turn (at-loop .loop .inv) (at-read-record .read-record .ensures) (at-p .p .given .1)) (c .before .before .before .store .ensures) (c .with-port .ensures)
 
 enum-known-l : tie.Need-enum-known-l Inv-loop μ-loop
 enum-known-l c = search needs
 
 move-up-requires : tie.Need-move-up-requires Inv-loop μ-loop
-move-up-requires c κs = let w = (turn (c .before .before .before .before .before .loop .inv) (c .before .before .before .before .read-record .ensures) (c .before .before .l .given .1)) in (omega (arith, w .told .fits, w .going .room, w .going .apart), omega (arith, w .told .fits, w .going .room, w .going .apart))
+move-up-requires c κs =
+    let at-read-record = c .before .before .before .before in
+    let at-loop = at-read-record .before in
+    let w = (turn (at-loop .loop .inv) (at-read-record .read-record .ensures) (c .before .before .l .given .1)) in (omega (arith, w .told .fits, w .going .room, w .going .apart), omega (arith, w .told .fits, w .going .room, w .going .apart))
 
 store-requires-2 : tie.Need-store-requires-2 Inv-loop μ-loop
-store-requires-2 c κs = link-fits (turn (c .before .before .before .before .before .before .loop .inv) (c .before .before .before .before .before .read-record .ensures) (c .before .before .before .l .given .1)) (c .move-up .ensures)
+store-requires-2 c κs =
+    let at-read-record = c .before .before .before .before .before in
+    let at-loop = at-read-record .before in
+    link-fits (turn (at-loop .loop .inv) (at-read-record .read-record .ensures) (c .before .before .before .l .given .1)) (c .move-up .ensures)
 
 with-link-requires : tie.Need-with-link-requires Inv-loop μ-loop
-with-link-requires c κs = let w = (turn (c .before .before .before .before .before .before .before .before .before .loop .inv) (c .before .before .before .before .before .before .before .before .read-record .ensures) (c .before .before .before .before .before .before .l .given .1)) in omega (arith, w .told)
+with-link-requires c κs =
+    let at-l = c .before .before .before .before .before .before in
+    let at-read-record = at-l .before .before in
+    let at-loop = at-read-record .before in
+    let w = (turn (at-loop .loop .inv) (at-read-record .read-record .ensures) (at-l .l .given .1)) in omega (arith, w .told)
 
 loop-less-2 : tie.Need-loop-less-2 Inv-loop μ-loop
-loop-less-2 c = let w = (turn (c .before .before .before .before .before .before .before .before .before .before .loop .inv) (c .before .before .before .before .before .before .before .before .before .read-record .ensures) (c .before .before .before .before .before .before .before .l .given .1)) in omega (arith, w .told)
+loop-less-2 c =
+    let at-l = c .before .before .before .before .before .before .before in
+    let at-read-record = at-l .before .before in
+    let at-loop = at-read-record .before in
+    let w = (turn (at-loop .loop .inv) (at-read-record .read-record .ensures) (at-l .l .given .1)) in omega (arith, w .told)
 
 loop-again-2 : tie.Need-loop-again-2 Inv-loop μ-loop
-loop-again-2 c = link-read (turn (c .before .before .before .before .before .before .before .before .before .before .loop .inv) (c .before .before .before .before .before .before .before .before .before .read-record .ensures) (c .before .before .before .before .before .before .before .l .given .1)) (c .before .before .before .before .move-up .ensures) (c .before .before .before .store2 .ensures) (c .with-link .ensures)
+loop-again-2 c =
+    let at-move-up = c .before .before .before .before in
+    let at-l = at-move-up .before .before .before in
+    let at-read-record = at-l .before .before in
+    let at-loop = at-read-record .before in
+    link-read (turn (at-loop .loop .inv) (at-read-record .read-record .ensures) (at-l .l .given .1)) (at-move-up .move-up .ensures) (c .before .before .before .store2 .ensures) (c .with-link .ensures)
 
 enum-known-number : tie.Need-enum-known-number Inv-loop μ-loop
 enum-known-number c = search needs

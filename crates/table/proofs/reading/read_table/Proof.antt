@@ -1,5 +1,5 @@
--- By the number and the count. Assumes nothing.
-use Rattle.table.specs.Reading.{readTable}
+-- By the number and the count.
+use Rattle.specification.specs.Reading.{readTable}
 use Rattle.table.proofs.reading.Filling.{no-port, some-port, faulty}
 use borrow.Author.Needs.{needs}
 use Rattle.table.proofs.reading.read_table.Statement.{statement}

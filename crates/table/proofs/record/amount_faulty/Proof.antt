@@ -1,5 +1,5 @@
--- By the tests, in their order. Assumes nothing.
-use Rattle.table.specs.Record.{amountFaulty}
+-- By the tests, in their order.
+use Rattle.specification.specs.Reading.{amountFaulty}
 use borrow.Author.Tests.{lt-ltb, le-ltb}
 use Rattle.table.proofs.record.amount_faulty.Statement.{statement}
 use Rattle.table.proofs.record.amount_faulty.Tie as tie

@@ -1,11 +1,11 @@
--- The two amounts of the four bytes. Assumes nothing.
-use Rattle.table.specs.Record.{eventsAt}
+-- The two amounts of the four bytes.
+use Rattle.specification.specs.Reading.{eventsAt}
 use borrow.Author.Needs.{needs}
 use Rattle.table.proofs.record.events_at.Statement.{statement}
 use Rattle.table.proofs.record.events_at.Tie as tie
 
-four-bytes-requires : tie.Need-four-bytes-requires
-four-bytes-requires c κs = search needs
+number-at-requires : tie.Need-number-at-requires
+number-at-requires c κs = search needs
 
 forward-of-requires : tie.Need-forward-of-requires
 forward-of-requires c κs = search needs
@@ -15,8 +15,8 @@ back-of-requires c κs = search needs
 
 returns : tie.Need-returns
 unfolding eventsAt
-returns c = rw (c .before .forward-of .ensures, c .back-of .ensures, c .before .before .four-bytes .ensures .0)
+returns c = rw (c .before .forward-of .ensures, c .back-of .ensures, c .before .before .number-at .ensures .0)
 
 pub events-at-spec : {M : Type 1} → statement M
 events-at-spec =
-    tie.close (tie.spec four-bytes-requires forward-of-requires back-of-requires returns)
+    tie.close (tie.spec number-at-requires forward-of-requires back-of-requires returns)

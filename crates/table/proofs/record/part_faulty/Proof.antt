@@ -1,5 +1,5 @@
--- By the tests, in their order. Assumes nothing.
-use Rattle.table.specs.Record.{partFaulty}
+-- By the tests, in their order.
+use Rattle.specification.specs.Reading.{partFaulty}
 use borrow.Author.Tests.{eq-eqb, ne-eqb}
 use Rattle.table.proofs.record.part_faulty.Statement.{statement}
 use Rattle.table.proofs.record.part_faulty.Tie as tie

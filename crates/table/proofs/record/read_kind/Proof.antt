@@ -1,5 +1,5 @@
--- By the tests, in their order. Assumes nothing.
-use Rattle.table.specs.Record.{kindAt, connectionAt, bufferAt}
+-- By the tests, in their order.
+use Rattle.specification.specs.Reading.{kindAt, connectionAt, bufferAt}
 use borrow.Author.Tests.{eq-eqb, ne-eqb}
 use borrow.Author.Needs.{needs}
 use Rattle.table.proofs.record.read_kind.Statement.{statement}
@@ -30,7 +30,9 @@ read-link-requires c κs = search needs
 
 returns-3 : tie.Need-returns-3
 unfolding kindAt connectionAt bufferAt
-returns-3 c = rw (ne-eqb _ _ (c .before .before .before .before .if1 .left), eq-eqb _ _ (c .before .before .before .if2 .taken), eq-eqb _ _ (c .before .before .if3 .left), c .read-link .ensures, c .before .events-at .ensures)
+returns-3 c =
+    let at-if1 = c .before .before .before .before in
+    rw (ne-eqb _ _ (at-if1 .if1 .left), eq-eqb _ _ (c .before .before .before .if2 .taken), eq-eqb _ _ (c .before .before .if3 .left), c .read-link .ensures, c .before .events-at .ensures)
 
 returns-4 : tie.Need-returns-4
 unfolding kindAt connectionAt bufferAt
@@ -44,7 +46,9 @@ read-link-requires-2 c κs = search needs
 
 returns-5 : tie.Need-returns-5
 unfolding kindAt connectionAt bufferAt
-returns-5 c = rw (ne-eqb _ _ (c .before .before .before .before .if1 .left), ne-eqb _ _ (c .before .before .before .if2 .left), eq-eqb _ _ (c .before .before .if4 .taken), eq-eqb _ _ (c .before .if5 .left), c .read-link2 .ensures)
+returns-5 c =
+    let at-if1 = c .before .before .before .before in
+    rw (ne-eqb _ _ (at-if1 .if1 .left), ne-eqb _ _ (c .before .before .before .if2 .left), eq-eqb _ _ (c .before .before .if4 .taken), eq-eqb _ _ (c .before .if5 .left), c .read-link2 .ensures)
 
 returns-6 : tie.Need-returns-6
 unfolding kindAt connectionAt bufferAt

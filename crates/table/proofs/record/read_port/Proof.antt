@@ -1,5 +1,5 @@
--- By the tests, in their order. Assumes nothing.
-use Rattle.table.specs.Record.{portAt}
+-- By the tests, in their order.
+use Rattle.specification.specs.Reading.{portAt}
 use borrow.Author.Tests.{le-leb, lt-leb, eq-eqb, ne-eqb, not-true, not-false}
 use borrow.Author.Needs.{needs}
 use Rattle.table.proofs.record.read_port.Statement.{statement}
@@ -15,7 +15,10 @@ returns-2 c = rw (eq-eqb _ _ (c .before .before .if1 .left), not-true (c .before
 
 returns-3 : tie.Need-returns-3
 unfolding portAt
-returns-3 c = rw (eq-eqb _ _ (c .before .before .before .before .if1 .left), not-false (c .before .before .before .before .before .before .args .before .«port_may_come») (c .before .before .if2 .left), le-leb _ _ (c .if3 .taken))
+returns-3 c =
+    let at-if1 = c .before .before .before .before in
+    let entry = at-if1 .before .before in
+    rw (eq-eqb _ _ (at-if1 .if1 .left), not-false (entry .args .before .«port_may_come») (c .before .before .if2 .left), le-leb _ _ (c .if3 .taken))
 
 add-parts-faulty : tie.Need-add-parts-faulty
 add-parts-faulty c = search needs
@@ -25,7 +28,11 @@ parts-faulty-requires c κs = search needs
 
 returns-4 : tie.Need-returns-4
 unfolding portAt
-returns-4 c = rw (eq-eqb _ _ (c .before .before .before .before .before .before .if1 .left), not-false (c .before .before .before .before .before .before .before .before .args .before .«port_may_come») (c .before .before .before .before .if2 .left), lt-leb _ _ (c .before .before .if3 .left), ← c .before .parts-faulty .ensures, c .if4 .taken)
+returns-4 c =
+    let at-if2 = c .before .before .before .before in
+    let at-if1 = at-if2 .before .before in
+    let entry = at-if1 .before .before in
+    rw (eq-eqb _ _ (at-if1 .if1 .left), not-false (entry .args .before .«port_may_come») (at-if2 .if2 .left), lt-leb _ _ (c .before .before .if3 .left), ← c .before .parts-faulty .ensures, c .if4 .taken)
 
 add-port-of : tie.Need-add-port-of
 add-port-of c = search needs
@@ -38,7 +45,11 @@ add-t9 c = search needs
 
 returns-5 : tie.Need-returns-5
 unfolding portAt
-returns-5 c = rw (eq-eqb _ _ (c .before .before .before .before .before .before .before .if1 .left), not-false (c .before .before .before .before .before .before .before .before .before .args .before .«port_may_come») (c .before .before .before .before .before .if2 .left), lt-leb _ _ (c .before .before .before .if3 .left), ← c .before .before .parts-faulty .ensures, c .before .if4 .left, c .port-of .ensures)
+returns-5 c =
+    let at-if2 = c .before .before .before .before .before in
+    let at-if1 = at-if2 .before .before in
+    let entry = at-if1 .before .before in
+    rw (eq-eqb _ _ (at-if1 .if1 .left), not-false (entry .args .before .«port_may_come») (at-if2 .if2 .left), lt-leb _ _ (c .before .before .before .if3 .left), ← c .before .before .parts-faulty .ensures, c .before .if4 .left, c .port-of .ensures)
 
 pub read-port-spec : {M : Type 1} → statement M
 read-port-spec =

@@ -1,6 +1,6 @@
--- By the tests; a length that passes ends within the table. Assumes nothing.
-use Rattle.table.specs.Facts.{whole}
-use Rattle.table.specs.Record.{recordAt}
+-- By the tests; a length that passes ends within the table.
+use Rattle.table.specs.RecordLaws.{whole}
+use Rattle.specification.specs.Reading.{recordAt}
 use native.Mathlib.Omega.{arith}
 use borrow.Author.Tests.{le-leb, lt-leb}
 use borrow.Author.Needs.{needs}
@@ -18,21 +18,24 @@ returns-2 : tie.Need-returns-2
 unfolding recordAt
 returns-2 c = rw (lt-leb _ _ (c .before .before .if1 .left), ← c .before .length-faulty .ensures, c .if2 .taken)
 
-two-bytes-requires : tie.Need-two-bytes-requires
-two-bytes-requires c κs = omega (arith, whole _ _ (rw (c .before .length-faulty .ensures) at (c .if2 .left)))
+number-at-requires : tie.Need-number-at-requires
+number-at-requires c κs = omega (arith, whole _ _ (rw (c .before .length-faulty .ensures) at (c .if2 .left)))
 
-add-two-bytes : tie.Need-add-two-bytes
-add-two-bytes c = search needs
+add-number-at : tie.Need-add-number-at
+add-number-at c = search needs
 
-two-bytes-requires-2 : tie.Need-two-bytes-requires-2
-two-bytes-requires-2 c κs = omega (arith, whole _ _ (rw (c .before .before .length-faulty .ensures) at (c .before .if2 .left)))
+number-at-requires-2 : tie.Need-number-at-requires-2
+number-at-requires-2 c κs = omega (arith, whole _ _ (rw (c .before .before .length-faulty .ensures) at (c .before .if2 .left)))
 
 read-kind-requires : tie.Need-read-kind-requires
-read-kind-requires c κs = omega (arith, whole _ _ (rw (c .before .before .before .length-faulty .ensures) at (c .before .before .if2 .left)), c .before .two-bytes .ensures .0)
+read-kind-requires c κs = omega (arith, whole _ _ (rw (c .before .before .before .length-faulty .ensures) at (c .before .before .if2 .left)), c .before .number-at .ensures .0)
 
 returns-3 : tie.Need-returns-3
 unfolding recordAt
-returns-3 c = rw (lt-leb _ _ (c .before .before .before .before .before .if1 .left), ← c .before .before .before .before .length-faulty .ensures, c .before .before .before .if2 .left, ← c .before .before .two-bytes .ensures .0, ← c .before .two-bytes2 .ensures .0, c .read-kind .ensures)
+returns-3 c =
+    let at-length-faulty = c .before .before .before .before in
+    let at-if1 = at-length-faulty .before in
+    rw (lt-leb _ _ (at-if1 .if1 .left), ← at-length-faulty .length-faulty .ensures, c .before .before .before .if2 .left, ← c .before .before .number-at .ensures .0, ← c .before .number-at2 .ensures .0, c .read-kind .ensures)
 
 pub read-record-spec : {M : Type 1} → statement M
 read-record-spec =
@@ -41,8 +44,8 @@ read-record-spec =
     returns
     length-faulty-requires
     returns-2
-    two-bytes-requires
-    add-two-bytes
-    two-bytes-requires-2
+    number-at-requires
+    add-number-at
+    number-at-requires-2
     read-kind-requires
     returns-3)

@@ -1,4 +1,4 @@
--- The fields, one behind another. Assumes nothing.
+-- The fields, one behind another.
 use Rattle.text.specs.Lines.{bufferLine}
 use Rattle.text.specs.Printed.{bufferAt}
 use Rattle.text.specs.Put.{_⨾_}
@@ -30,11 +30,11 @@ number-at-requires-2 c κs = search needs
 put-field-requires-2 : tie.Need-put-field-requires-2
 put-field-requires-2 c κs = search needs
 
-slice-aggregate-put : tie.Need-slice-aggregate-put
-slice-aggregate-put c = search needs
+slice-aggregate-put-word : tie.Need-slice-aggregate-put-word
+slice-aggregate-put-word c = search needs
 
-put-requires : tie.Need-put-requires
-put-requires c κs = search needs
+put-word-requires : tie.Need-put-word-requires
+put-word-requires c κs = search needs
 
 same-length : tie.Need-same-length
 same-length c = search needs
@@ -46,7 +46,7 @@ returns c = rw (
   ← c .before .before .before .before .before .before .before .before .number-at2 .ensures .0,
 ) (c .before .before .before .before .before .before .before .before .before .before .before .before .before .put-field .ensures .0
     ⨾ c .before .before .before .before .before .before .before .put-field2 .ensures .0
-    ⨾ c .before .before .put .ensures)
+    ⨾ c .before .before .put-word .ensures)
 
 pub put-buffer-spec : {M : Type 1} → statement M
 put-buffer-spec =
@@ -60,7 +60,7 @@ put-buffer-spec =
     add-number-at-2
     number-at-requires-2
     put-field-requires-2
-    slice-aggregate-put
-    put-requires
+    slice-aggregate-put-word
+    put-word-requires
     same-length
     returns)

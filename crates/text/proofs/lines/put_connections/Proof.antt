@@ -1,4 +1,4 @@
--- By the connections that are put. Assumes nothing.
+-- By the connections that are put.
 use native.Mathlib.Omega.{arith}
 use Prim.Native.Nat.{_-_}
 use Rattle.text.specs.Lines.{connectionText}
@@ -41,7 +41,10 @@ loop-less c = search needs
 
 loop-again : tie.Need-loop-again Inv-loop μ-loop
 unfolding connectionAt connectionText
-loop-again c = listed-more (c .before .before .before .before .before .before .before .loop .inv) (c .before .before .before .before .before .before .loop-test .taken) (rw (← c .before .before .before .number-at .ensures .0) (c .before .before .put-field .ensures .0))
+loop-again c =
+    let at-loop-test = c .before .before .before .before .before .before in
+    let at-loop = at-loop-test .before in
+    listed-more (at-loop .loop .inv) (at-loop-test .loop-test .taken) (rw (← c .before .before .before .number-at .ensures .0) (c .before .before .put-field .ensures .0))
 
 same-length : tie.Need-same-length Inv-loop μ-loop
 same-length c = search needs

@@ -1,4 +1,4 @@
--- The word, the numbers and the end of the line. Assumes nothing.
+-- The word, the numbers and the end of the line.
 use Rattle.text.specs.Lines.{itemsLine}
 use Rattle.text.specs.Printed.{cycleAt}
 use Rattle.text.specs.Put.{_⨾_}
@@ -15,18 +15,21 @@ add-put-connections c = search needs
 put-connections-requires : tie.Need-put-connections-requires
 put-connections-requires c κs = search needs
 
-slice-aggregate-put : tie.Need-slice-aggregate-put
-slice-aggregate-put c = search needs
+slice-aggregate-put-word : tie.Need-slice-aggregate-put-word
+slice-aggregate-put-word c = search needs
 
-put-requires : tie.Need-put-requires
-put-requires c κs = search needs
+put-word-requires : tie.Need-put-word-requires
+put-word-requires c κs = search needs
 
 same-length : tie.Need-same-length
 same-length c = search needs
 
 returns : tie.Need-returns
 unfolding cycleAt itemsLine
-returns c = c .before .before .before .before .before .before .before .before .before .before .before .put-cycle-word .ensures .0 ⨾ c .before .before .before .before .before .before .before .put-connections .ensures .0 ⨾ c .before .before .put .ensures
+returns c =
+    let at-put-connections = c .before .before .before .before .before .before .before in
+    let at-put-cycle-word = at-put-connections .before .before .before .before in
+    at-put-cycle-word .put-cycle-word .ensures .0 ⨾ at-put-connections .put-connections .ensures .0 ⨾ c .before .before .put-word .ensures
 
 pub put-cycle-spec : {M : Type 1} → statement M
 put-cycle-spec =
@@ -35,7 +38,7 @@ put-cycle-spec =
     put-cycle-word-requires
     add-put-connections
     put-connections-requires
-    slice-aggregate-put
-    put-requires
+    slice-aggregate-put-word
+    put-word-requires
     same-length
     returns)

@@ -1,45 +1,45 @@
--- By the test. Assumes nothing.
+-- By the test.
 use borrow.Author.Tests.{eq-eqb, ne-eqb}
 use Rattle.text.specs.Printed.{cycleWord}
 use borrow.Author.Needs.{needs}
 use Rattle.text.proofs.lines.put_cycle_word.Statement.{statement}
 use Rattle.text.proofs.lines.put_cycle_word.Tie as tie
 
-slice-aggregate-put : tie.Need-slice-aggregate-put
-slice-aggregate-put c = search needs
+slice-aggregate-put-word : tie.Need-slice-aggregate-put-word
+slice-aggregate-put-word c = search needs
 
-put-requires : tie.Need-put-requires
-put-requires c κs = search needs
+put-word-requires : tie.Need-put-word-requires
+put-word-requires c κs = search needs
 
 same-length : tie.Need-same-length
 same-length c = search needs
 
 returns : tie.Need-returns
 unfolding cycleWord
-returns c = (rw (eq-eqb _ _ (c .before .before .before .before .before .if1 .taken)) (c .before .before .put .ensures), search needs)
+returns c = (rw (eq-eqb _ _ (c .before .before .before .before .before .if1 .taken)) (c .before .before .put-word .ensures), search needs)
 
-slice-aggregate-put-2 : tie.Need-slice-aggregate-put-2
-slice-aggregate-put-2 c = search needs
+slice-aggregate-put-word-2 : tie.Need-slice-aggregate-put-word-2
+slice-aggregate-put-word-2 c = search needs
 
-put-requires-2 : tie.Need-put-requires-2
-put-requires-2 c κs = search needs
+put-word-requires-2 : tie.Need-put-word-requires-2
+put-word-requires-2 c κs = search needs
 
 same-length-2 : tie.Need-same-length-2
 same-length-2 c = search needs
 
 returns-2 : tie.Need-returns-2
 unfolding cycleWord
-returns-2 c = (rw (ne-eqb _ _ (c .before .before .before .before .before .if1 .left)) (c .before .before .put2 .ensures), search needs)
+returns-2 c = (rw (ne-eqb _ _ (c .before .before .before .before .before .if1 .left)) (c .before .before .put-word2 .ensures), search needs)
 
 pub put-cycle-word-spec : {M : Type 1} → statement M
 put-cycle-word-spec =
     tie.close
     (tie.spec
-    slice-aggregate-put
-    put-requires
+    slice-aggregate-put-word
+    put-word-requires
     same-length
     returns
-    slice-aggregate-put-2
-    put-requires-2
+    slice-aggregate-put-word-2
+    put-word-requires-2
     same-length-2
     returns-2)

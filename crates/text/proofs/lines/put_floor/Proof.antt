@@ -1,4 +1,4 @@
--- The field, and the end of the line. Assumes nothing.
+-- The field, and the end of the line.
 use Rattle.text.specs.Lines.{floorPortLine}
 use Rattle.text.specs.Printed.{floorAt}
 use Rattle.text.specs.Put.{_⨾_}
@@ -18,18 +18,21 @@ number-at-requires c κs = search needs
 put-field-requires : tie.Need-put-field-requires
 put-field-requires c κs = search needs
 
-slice-aggregate-put : tie.Need-slice-aggregate-put
-slice-aggregate-put c = search needs
+slice-aggregate-put-word : tie.Need-slice-aggregate-put-word
+slice-aggregate-put-word c = search needs
 
-put-requires : tie.Need-put-requires
-put-requires c κs = search needs
+put-word-requires : tie.Need-put-word-requires
+put-word-requires c κs = search needs
 
 same-length : tie.Need-same-length
 same-length c = search needs
 
 returns : tie.Need-returns
 unfolding floorAt floorPortLine
-returns c = rw (← c .before .before .before .before .before .before .before .before .number-at .ensures .0) (c .before .before .before .before .before .before .before .put-field .ensures .0 ⨾ c .before .before .put .ensures)
+returns c =
+    let at-put-field = c .before .before .before .before .before .before .before in
+    let at-number-at = at-put-field .before in
+    rw (← at-number-at .number-at .ensures .0) (at-put-field .put-field .ensures .0 ⨾ c .before .before .put-word .ensures)
 
 pub put-floor-spec : {M : Type 1} → statement M
 put-floor-spec =
@@ -39,7 +42,7 @@ put-floor-spec =
     add-number-at
     number-at-requires
     put-field-requires
-    slice-aggregate-put
-    put-requires
+    slice-aggregate-put-word
+    put-word-requires
     same-length
     returns)

@@ -1,4 +1,4 @@
--- The fields are the numbers of the record; the period is a/b times the weight. Assumes nothing.
+-- The fields are the numbers of the record; the period is a/b times the weight.
 use Rattle.text.specs.Lines.{portLine}
 use Rattle.text.specs.Printed.{portAt}
 use Rattle.text.proofs.lines.Period.{times-fits, period-is}
@@ -56,14 +56,22 @@ same-length c = search needs
 returns : tie.Need-returns
 unfolding portAt portLine
 returns c =
-    let over = rw (← c .before .before .before .before .before .before .before .before .number-at4 .ensures .0) at (c .before .before .before .before .before .before .before .before .before .before .before .before .before .before .pre .1 .0) in
-    let period = period-is _ _ over (c .before .before .before .before .before .before .reduced .ensures) _ (c .before .before .before .before .before .times .ensures) in
+    let at-times = c .before .before .before .before .before in
+    let at-reduced = at-times .before in
+    let at-number-at5 = at-reduced .before in
+    let at-number-at4 = at-number-at5 .before in
+    let at-number-at3 = at-number-at4 .before in
+    let at-number-at2 = at-number-at3 .before in
+    let at-number-at = at-number-at2 .before in
+    let entry = at-number-at .before .before .before in
+    let over = rw (← at-number-at4 .number-at4 .ensures .0) at (entry .pre .1 .0) in
+    let period = period-is _ _ over (at-reduced .reduced .ensures) _ (at-times .times .ensures) in
     rw (
-      ← c .before .before .before .before .before .before .before .before .before .before .before .number-at .ensures .0,
-      ← c .before .before .before .before .before .before .before .before .before .before .number-at2 .ensures .0,
-      ← c .before .before .before .before .before .before .before .before .before .number-at3 .ensures .0,
-      ← c .before .before .before .before .before .before .before .before .number-at4 .ensures .0,
-      ← c .before .before .before .before .before .before .before .number-at5 .ensures .0,
+      ← at-number-at .number-at .ensures .0,
+      ← at-number-at2 .number-at2 .ensures .0,
+      ← at-number-at3 .number-at3 .ensures .0,
+      ← at-number-at4 .number-at4 .ensures .0,
+      ← at-number-at5 .number-at5 .ensures .0,
       ← period,
       ← c .before .before .before .reduced2 .ensures,
     ) (c .before .before .put-port-text .ensures)

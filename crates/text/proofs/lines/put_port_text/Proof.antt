@@ -1,4 +1,4 @@
--- The fields, one behind another. Assumes nothing.
+-- The fields, one behind another.
 use Rattle.text.specs.Lines.{portText}
 use Rattle.text.specs.Put.{_⨾_}
 use borrow.Author.Needs.{needs}
@@ -35,11 +35,11 @@ slice-aggregate-put-fraction-field-2 c = search needs
 put-fraction-field-requires-2 : tie.Need-put-fraction-field-requires-2
 put-fraction-field-requires-2 c κs = search needs
 
-slice-aggregate-put : tie.Need-slice-aggregate-put
-slice-aggregate-put c = search needs
+slice-aggregate-put-word : tie.Need-slice-aggregate-put-word
+slice-aggregate-put-word c = search needs
 
-put-requires : tie.Need-put-requires
-put-requires c κs = search needs
+put-word-requires : tie.Need-put-word-requires
+put-word-requires c κs = search needs
 
 same-length : tie.Need-same-length
 same-length c = search needs
@@ -47,12 +47,17 @@ same-length c = search needs
 returns : tie.Need-returns
 unfolding portText
 returns c =
-    c .before .before .before .before .before .before .before .before .before .before .before .before .before .before .before .before .before .before .before .before .before .before .before .before .before .before .before .put-field .ensures .0
-    ⨾ c .before .before .before .before .before .before .before .before .before .before .before .before .before .before .before .before .before .before .before .before .before .before .put-field2 .ensures .0
-    ⨾ c .before .before .before .before .before .before .before .before .before .before .before .before .before .before .before .before .before .put-field3 .ensures .0
-    ⨾ c .before .before .before .before .before .before .before .before .before .before .before .before .put-fraction-field .ensures .0
-    ⨾ c .before .before .before .before .before .before .before .put-fraction-field2 .ensures .0
-    ⨾ c .before .before .put .ensures
+    let at-put-fraction-field2 = c .before .before .before .before .before .before .before in
+    let at-put-fraction-field = at-put-fraction-field2 .before .before .before .before .before in
+    let at-put-field3 = at-put-fraction-field .before .before .before .before .before in
+    let at-put-field2 = at-put-field3 .before .before .before .before .before in
+    let at-put-field = at-put-field2 .before .before .before .before .before in
+    at-put-field .put-field .ensures .0
+    ⨾ at-put-field2 .put-field2 .ensures .0
+    ⨾ at-put-field3 .put-field3 .ensures .0
+    ⨾ at-put-fraction-field .put-fraction-field .ensures .0
+    ⨾ at-put-fraction-field2 .put-fraction-field2 .ensures .0
+    ⨾ c .before .before .put-word .ensures
 
 pub put-port-text-spec : {M : Type 1} → statement M
 put-port-text-spec =
@@ -68,7 +73,7 @@ put-port-text-spec =
     put-fraction-field-requires
     slice-aggregate-put-fraction-field-2
     put-fraction-field-requires-2
-    slice-aggregate-put
-    put-requires
+    slice-aggregate-put-word
+    put-word-requires
     same-length
     returns)

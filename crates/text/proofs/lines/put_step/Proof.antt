@@ -1,4 +1,4 @@
--- The sign, and the number behind it. Assumes nothing.
+-- The sign, and the number behind it.
 use Rattle.text.specs.Lines.{stepText}
 use Rattle.text.specs.Printed.{stepAt}
 use Rattle.text.specs.Put.{_⨾_}

@@ -1,4 +1,4 @@
--- By the steps that are put. Assumes nothing.
+-- By the steps that are put.
 use native.Mathlib.Omega.{arith}
 use Prim.Native.Nat.{_-_}
 use Rattle.text.specs.Printed.{stepAt}
@@ -33,7 +33,10 @@ loop-less : tie.Need-loop-less Inv-loop μ-loop
 loop-less c = search needs
 
 loop-again : tie.Need-loop-again Inv-loop μ-loop
-loop-again c = listed-more (c .before .before .before .before .before .loop .inv) (c .before .before .before .before .loop-test .taken) (c .before .before .put-step .ensures)
+loop-again c =
+    let at-loop-test = c .before .before .before .before in
+    let at-loop = at-loop-test .before in
+    listed-more (at-loop .loop .inv) (at-loop-test .loop-test .taken) (c .before .before .put-step .ensures)
 
 same-length : tie.Need-same-length Inv-loop μ-loop
 same-length c = search needs

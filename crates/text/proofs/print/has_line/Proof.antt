@@ -1,4 +1,4 @@
--- By the kind. Assumes nothing.
+-- By the kind.
 use borrow.Author.Tests.{ne-eqb}
 use Rattle.text.specs.Printed.{hasLine}
 use Rattle.text.proofs.print.has_line.Statement.{statement}

@@ -1,4 +1,4 @@
--- The first line and the records' lines, one behind another; the text fits. Assumes nothing.
+-- The first line and the records' lines, one behind another; the text fits.
 use native.Mathlib.Omega.{arith}
 use Rattle.text.specs.Lines.{answerLine}
 use Rattle.text.specs.Printed.{printed}
@@ -15,11 +15,11 @@ slice-aggregate-put-field c = search needs
 put-field-requires : tie.Need-put-field-requires
 put-field-requires c κs = search needs
 
-slice-aggregate-put : tie.Need-slice-aggregate-put
-slice-aggregate-put c = search needs
+slice-aggregate-put-word : tie.Need-slice-aggregate-put-word
+slice-aggregate-put-word c = search needs
 
-put-requires : tie.Need-put-requires
-put-requires c κs = search needs
+put-word-requires : tie.Need-put-word-requires
+put-word-requires c κs = search needs
 
 put-records-requires : tie.Need-put-records-requires
 put-records-requires c κs = search needs
@@ -30,9 +30,12 @@ same-length c = search needs
 returns : tie.Need-returns
 unfolding printed answerLine
 returns c =
-    let given = c .before .before .before .before .before .before .before .before .before .before .before .before .before .before .before .before .args in
+    let at-put-word = c .before .before .before .before .before .before in
+    let at-put-field = at-put-word .before .before .before .before .before in
+    let entry = at-put-field .before .before .before .before .before in
+    let given = entry .args in
     let room = printed-size (given .number) (given .records .now) .within in
-    let w = written (c .before .before .before .before .before .before .before .before .before .before .before .put-field .ensures .0 ⨾ c .before .before .before .before .before .before .put .ensures ⨾ c .before .before .put-records .ensures) (omega arith) in
+    let w = written (at-put-field .put-field .ensures .0 ⨾ at-put-word .put-word .ensures ⨾ c .before .before .put-records .ensures) (omega arith) in
     (w, written-within w)
 
 pub print-spec : {M : Type 1} → statement M
@@ -41,8 +44,8 @@ print-spec =
     (tie.spec
     slice-aggregate-put-field
     put-field-requires
-    slice-aggregate-put
-    put-requires
+    slice-aggregate-put-word
+    put-word-requires
     put-records-requires
     same-length
     returns)

@@ -1,4 +1,4 @@
--- By the kind, each with its length. Assumes nothing.
+-- By the kind, each with its length.
 use mathlib.Core.Path.{sym, _∙_}
 use native.Mathlib.Omega.{arith}
 use borrow.Author.Tests.{eq-eqb, ne-eqb}
@@ -28,10 +28,15 @@ same-length c = search needs
 
 returns : tie.Need-returns
 unfolding recordLine
-returns c = rw (← c .before .before .before .before .before .number-at2 .ensures .0, eq-eqb _ _ (c .before .before .before .before .if1 .taken)) (c .before .before .put-port .ensures)
+returns c =
+    let at-if1 = c .before .before .before .before in
+    let at-number-at2 = at-if1 .before in
+    rw (← at-number-at2 .number-at2 .ensures .0, eq-eqb _ _ (at-if1 .if1 .taken)) (c .before .before .put-port .ensures)
 
 put-buffer-requires : tie.Need-put-buffer-requires
-put-buffer-requires c κs = omega (arith, size-buffer (c .before .before .before .before .before .before .before .pre .0) (sym (c .before .before .before .number-at2 .ensures .0) ∙ c .before .if2 .taken))
+put-buffer-requires c κs =
+    let entry = c .before .before .before .before .before .before .before in
+    omega (arith, size-buffer (entry .pre .0) (sym (c .before .before .before .number-at2 .ensures .0) ∙ c .before .if2 .taken))
 
 same-length-2 : tie.Need-same-length-2
 same-length-2 c = search needs
@@ -45,7 +50,9 @@ returns-2 c = rw (
 ) (c .before .before .put-buffer .ensures)
 
 sub-put-loop : tie.Need-sub-put-loop
-sub-put-loop c = omega (arith, size-loop (c .before .before .before .before .before .before .before .pre .0) (sym (c .before .before .before .number-at2 .ensures .0) ∙ c .if3 .taken))
+sub-put-loop c =
+    let entry = c .before .before .before .before .before .before .before in
+    omega (arith, size-loop (entry .pre .0) (sym (c .before .before .before .number-at2 .ensures .0) ∙ c .if3 .taken))
 
 put-loop-requires : tie.Need-put-loop-requires
 put-loop-requires c κs = search needs
@@ -64,7 +71,10 @@ returns-3 c = rw (
 ) (c .before .before .put-loop .ensures)
 
 sub-put-cycle : tie.Need-sub-put-cycle
-sub-put-cycle c = omega (arith, size-cycle (c .before .before .before .before .before .before .before .before .pre .0) (sym (c .before .before .before .before .number-at2 .ensures .0) ∙ c .if4 .taken))
+sub-put-cycle c =
+    let at-number-at2 = c .before .before .before .before in
+    let entry = at-number-at2 .before .before .before .before in
+    omega (arith, size-cycle (entry .pre .0) (sym (at-number-at2 .number-at2 .ensures .0) ∙ c .if4 .taken))
 
 put-cycle-requires : tie.Need-put-cycle-requires
 put-cycle-requires c κs = search needs

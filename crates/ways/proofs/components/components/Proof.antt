@@ -1,9 +1,9 @@
--- The labels stay sound, and each pass that changes one lowers their sum, the measure. Assumes nothing.
+-- The labels stay sound, and each pass that changes one lowers their sum, the measure.
 use Rattle.ways.proofs.components.Lowest.{lowest-all}
 use Rattle.ways.proofs.components.Owned.{own-sound}
 use Rattle.table.specs.Slices.{tableOf}
 use Rattle.ways.specs.Passes.{Sound}
-use Rattle.rounds.specs.Lists.{sum}
+use Rattle.numbers.specs.Lists.{sum}
 use borrow.Author.Needs.{needs}
 use Rattle.ways.proofs.components.components.Statement.{statement}
 use Rattle.ways.proofs.components.components.Tie as tie
@@ -30,7 +30,9 @@ loop-again : tie.Need-loop-again Inv-loop μ-loop
 loop-again c = search needs
 
 returns : tie.Need-returns Inv-loop μ-loop
-returns c = lowest-all (c .before .pass .ensures .even (c .if1 .left)) (c .before .before .before .before .before .before .before .pre) (c .before .pass .ensures .sound)
+returns c =
+    let entry = c .before .before .before .before .before .before .before in
+    lowest-all (c .before .pass .ensures .even (c .if1 .left)) (entry .pre) (c .before .pass .ensures .sound)
 
 pub components-spec : {M : Type 1} → statement M
 components-spec =

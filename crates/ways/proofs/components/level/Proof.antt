@@ -1,4 +1,4 @@
--- The smaller label goes to the other port, or the two are equal. Assumes nothing.
+-- The smaller label goes to the other port, or the two are equal.
 use Rattle.ways.proofs.components.Smaller.{level-first, level-second, level-none}
 use native.Mathlib.Omega.{arith}
 use borrow.Author.Needs.{needs}

@@ -1,4 +1,4 @@
--- Each turn of the loop labels one number more. The measure is how many are left. Assumes nothing.
+-- Each turn of the loop labels one number more. The measure is how many are left.
 use Rattle.ways.proofs.components.Owned.{own-none, own-on, own-all}
 use Rattle.ways.specs.Passes.{Own}
 use borrow.Author.Needs.{needs}

@@ -1,4 +1,4 @@
--- Each turn of the loop passes one link more. The measure is how many are left. Assumes nothing.
+-- Each turn of the loop passes one link more. The measure is how many are left.
 use native.Mathlib.Omega.{arith}
 use Rattle.table.specs.Slices.{linksOf, tableOf}
 use Rattle.ways.proofs.components.Passing.{passed-none, passed-both, passed-on, passed-off, passed-all}
@@ -29,7 +29,9 @@ to-requires : tie.Need-to-requires Inv-loop μ-loop
 to-requires c κs = search needs
 
 level-requires : tie.Need-level-requires Inv-loop μ-loop
-level-requires c κs = passed-both (c .before .before .before .before .before .before .before .before .pre .0) (omega arith) (c .before .from .ensures) (c .to .ensures)
+level-requires c κs =
+    let entry = c .before .before .before .before .before .before .before .before in
+    passed-both (entry .pre .0) (omega arith) (c .before .from .ensures) (c .to .ensures)
 
 add-k : tie.Need-add-k Inv-loop μ-loop
 add-k c = search needs
@@ -38,9 +40,12 @@ loop-less : tie.Need-loop-less Inv-loop μ-loop
 loop-less c = search needs
 
 loop-again : tie.Need-loop-again Inv-loop μ-loop
-loop-again c = ⊎-elim
-    (λ w. rw (w .1) (passed-on (c .before .before .before .before .before .before .before .before .before .before .pre .0) (omega arith) (c .before .before .before .from .ensures) (c .before .before .to .ensures) (c .before .before .before .before .before .before .loop .inv) (c .before .level .ensures) (w .0 .taken)))
-    (λ w. rw (w .1) (passed-off (c .before .before .before .before .before .before .before .before .before .before .pre .0) (omega arith) (c .before .before .before .from .ensures) (c .before .before .to .ensures) (c .before .before .before .before .before .before .loop .inv) (c .before .level .ensures) (w .0 .left)))
+loop-again c =
+    let at-loop = c .before .before .before .before .before .before in
+    let entry = at-loop .before .before .before .before in
+    ⊎-elim
+    (λ w. rw (w .1) (passed-on (entry .pre .0) (omega arith) (c .before .before .before .from .ensures) (c .before .before .to .ensures) (at-loop .loop .inv) (c .before .level .ensures) (w .0 .taken)))
+    (λ w. rw (w .1) (passed-off (entry .pre .0) (omega arith) (c .before .before .before .from .ensures) (c .before .before .to .ensures) (at-loop .loop .inv) (c .before .level .ensures) (w .0 .left)))
     (c .if1 .came)
 
 returns : tie.Need-returns Inv-loop μ-loop

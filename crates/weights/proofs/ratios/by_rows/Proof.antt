@@ -1,4 +1,4 @@
--- By the first conflict and the weights. Assumes nothing.
+-- By the first conflict and the weights.
 use mathlib.Core.Path.{refl}
 use Rattle.weights.proofs.ratios.Decided.{closing, loop-numbers, weighing}
 use native.Mathlib.Omega.{arith}
@@ -19,7 +19,11 @@ slice-aggregate-spanned-2 : tie.Need-slice-aggregate-spanned-2
 slice-aggregate-spanned-2 c = search needs
 
 spanned-requires : tie.Need-spanned-requires
-spanned-requires c κs = (c .before .before .before .before .before .before .before .before .before .pre .0, (c .before .before .before .before .before .before .before .before .before .pre .1 .0, (refl, record { divisors-are = c .before .before .before .before .before .least-divisors .ensures; places-are = c .before .before .before .before .all-places .ensures })))
+spanned-requires c κs =
+    let at-all-places = c .before .before .before .before in
+    let at-least-divisors = at-all-places .before in
+    let entry = at-least-divisors .before .before .before .before in
+    (entry .pre .0, (entry .pre .1 .0, (refl, record { divisors-are = at-least-divisors .least-divisors .ensures; places-are = at-all-places .all-places .ensures })))
 
 slice-aggregate-conflict : tie.Need-slice-aggregate-conflict
 slice-aggregate-conflict c = search needs
@@ -28,28 +32,50 @@ slice-aggregate-conflict-2 : tie.Need-slice-aggregate-conflict-2
 slice-aggregate-conflict-2 c = search needs
 
 conflict-requires : tie.Need-conflict-requires
-conflict-requires c κs = (c .before .before .before .before .before .before .before .before .before .before .before .before .before .before .before .before .before .before .pre .0, (c .before .before .before .before .before .before .before .before .spanned .ensures .port-rows, (c .before .before .before .before .before .before .before .before .spanned .ensures .over-forest, record { divisors-are = c .before .before .before .before .before .before .before .before .before .before .before .before .before .before .least-divisors .ensures; places-are = c .before .before .before .before .before .before .before .before .before .before .before .before .before .all-places .ensures })))
+conflict-requires c κs =
+    let at-spanned = c .before .before .before .before .before .before .before .before in
+    let at-all-places = at-spanned .before .before .before .before .before in
+    let at-least-divisors = at-all-places .before in
+    let entry = at-least-divisors .before .before .before .before in
+    (entry .pre .0, (at-spanned .spanned .ensures .port-rows, (at-spanned .spanned .ensures .over-forest, record { divisors-are = at-least-divisors .least-divisors .ensures; places-are = at-all-places .all-places .ensures })))
 
 count-requires : tie.Need-count-requires
 count-requires c κs = search needs
 
 close-requires : tie.Need-close-requires
-close-requires c κs = closing (c .before .before .before .before .before .before .before .before .before .before .before .before .before .before .before .before .before .before .before .before .before .before .before .before .before .pre .0) (c .before .before .before .before .before .before .before .before .before .before .before .before .before .before .before .before .before .before .before .before .before .before .before .before .before .pre .1 .0) (c .before .before .before .before .before .before .before .before .before .before .before .before .before .before .before .spanned .ensures) (c .before .before .before .before .before .before .conflict .ensures) (omega arith) (c .before .before .before .before .before .before .before .before .before .before .before .before .before .before .before .before .before .before .before .before .before .before .before .before .before .pre .1 .1 .1)
+close-requires c κs =
+    let given = c .before .before .before .before .before .before .before .before .before .before .before .before .before .before .before .before .before .before .before .before .before .before .before .before .before .pre in
+    let spanned = c .before .before .before .before .before .before .before .before .before .before .before .before .before .before .before .spanned .ensures in
+    closing (given .0) (given .1 .0) spanned (c .before .before .before .before .before .before .conflict .ensures) (omega arith) (given .1 .1 .1)
 
 same-length : tie.Need-same-length
 same-length c = search needs
 
 returns : tie.Need-returns
-returns c = record { components = c .before .before .before .before .before .before .before .before .before .before .before .before .before .before .before .before .before .before .before .before .before .before .before .before .before .before .before .before .pre .1 .0; outcome = loop-numbers (c .before .before .before .before .before .before .before .before .before .before .before .before .before .before .before .before .before .before .before .before .before .before .before .before .before .before .before .before .pre .0) (c .before .before .before .before .before .before .before .before .before .before .before .before .before .before .before .before .before .before .before .before .before .before .before .before .before .before .before .before .pre .1 .0) (c .before .before .before .before .before .before .before .before .before .before .before .before .before .before .before .before .before .before .spanned .ensures) (c .before .before .before .before .before .before .before .before .before .conflict .ensures) (omega arith) (c .before .before .close .ensures) }
+returns c =
+    let given = c .before .before .before .before .before .before .before .before .before .before .before .before .before .before .before .before .before .before .before .before .before .before .before .before .before .before .before .before .pre in
+    let spanned = c .before .before .before .before .before .before .before .before .before .before .before .before .before .before .before .before .before .before .spanned .ensures in
+    record {
+      components = given .1 .0;
+      outcome = loop-numbers (given .0) (given .1 .0) spanned (c .before .before .before .before .before .before .before .before .before .conflict .ensures) (omega arith) (c .before .before .close .ensures);
+    }
 
 weigh-requires : tie.Need-weigh-requires
-weigh-requires c κs = (weighing (c .before .before .before .before .before .before .before .before .before .before .before .before .before .before .before .before .before .before .before .before .before .before .before .pre .0) (c .before .before .before .before .before .before .before .before .before .before .before .before .before .before .before .before .before .before .before .before .before .before .before .pre .1 .0) (c .before .before .before .before .before .before .before .before .before .before .before .before .before .spanned .ensures) (c .before .before .before .before .conflict .ensures) (omega arith), c .before .before .before .before .before .before .before .before .before .before .before .before .before .spanned .ensures .up-to _ (c .before .before .before .before .before .before .before .before .before .before .before .before .before .before .before .before .before .before .before .before .before .before .before .pre .1 .1 .0))
+weigh-requires c κs =
+    let at-conflict = c .before .before .before .before in
+    let at-spanned = at-conflict .before .before .before .before .before .before .before .before .before in
+    let entry = at-spanned .before .before .before .before .before .before .before .before .before .before in
+    (weighing (entry .pre .0) (entry .pre .1 .0) (at-spanned .spanned .ensures) (at-conflict .conflict .ensures) (omega arith), at-spanned .spanned .ensures .up-to _ (entry .pre .1 .1 .0))
 
 returns-2 : tie.Need-returns-2
-returns-2 c = record { components = c .before .before .before .before .before .before .before .before .before .before .before .before .before .before .before .before .before .before .before .before .before .before .before .before .before .before .pre .1 .0; outcome = (c .before .before .weigh .ensures .within (c .if2 .taken), refl) }
+returns-2 c =
+    let entry = c .before .before .before .before .before .before .before .before .before .before .before .before .before .before .before .before .before .before .before .before .before .before .before .before .before .before in
+    record { components = entry .pre .1 .0; outcome = (c .before .before .weigh .ensures .within (c .if2 .taken), refl) }
 
 returns-3 : tie.Need-returns-3
-returns-3 c = record { components = c .before .before .before .before .before .before .before .before .before .before .before .before .before .before .before .before .before .before .before .before .before .before .before .before .before .before .pre .1 .0; outcome = (c .before .before .weigh .ensures .passes (c .if2 .left), refl) }
+returns-3 c =
+    let entry = c .before .before .before .before .before .before .before .before .before .before .before .before .before .before .before .before .before .before .before .before .before .before .before .before .before .before in
+    record { components = entry .pre .1 .0; outcome = (c .before .before .weigh .ensures .passes (c .if2 .left), refl) }
 
 pub by-rows-spec : {M : Type 1} → statement M
 by-rows-spec =

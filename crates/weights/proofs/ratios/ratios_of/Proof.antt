@@ -1,4 +1,4 @@
--- Where every ratio is 1 so is every weight; otherwise the rows tell. Assumes nothing.
+-- Where every ratio is 1 so is every weight; otherwise the rows tell.
 use mathlib.Core.Path.{refl, sym, _∙_}
 use Rattle.forest.specs.Parts.{greatest-most}
 use Rattle.weights.proofs.ratios.Unit.{unit-weights}
@@ -9,8 +9,8 @@ use Rattle.weights.proofs.ratios.ratios_of.Tie as tie
 components-requires : tie.Need-components-requires
 components-requires c κs = search needs
 
-most-part-requires : tie.Need-most-part-requires
-most-part-requires c κs = search needs
+greatest-part-requires : tie.Need-greatest-part-requires
+greatest-part-requires c κs = search needs
 
 count-requires : tie.Need-count-requires
 count-requires c κs = search needs
@@ -20,11 +20,15 @@ ones-requires c κs = search needs
 
 returns : tie.Need-returns
 returns c =
-    let ones = unit-weights (c .before .before .before .before .before .before .before .before .pre .0) (sym (c .before .before .before .most-part .ensures) ∙ c .before .before .if1 .taken) (rw (c .before .count .ensures) at (c .ones .ensures)) in
-    record { components = c .before .before .before .before .components .ensures; outcome = (ones, refl) }
+    let at-components = c .before .before .before .before in
+    let entry = at-components .before .before .before .before in
+    let ones = unit-weights (entry .pre .0) (sym (c .before .before .before .greatest-part .ensures) ∙ c .before .before .if1 .taken) (rw (c .before .count .ensures) at (c .ones .ensures)) in
+    record { components = at-components .components .ensures; outcome = (ones, refl) }
 
 by-rows-requires : tie.Need-by-rows-requires
-by-rows-requires c κs = (c .before .before .before .before .before .before .before .pre .0, (c .before .before .before .components .ensures, (rw (c .before .before .most-part .ensures) (greatest-most _), c .before .before .before .before .before .before .before .pre .1)))
+by-rows-requires c κs =
+    let entry = c .before .before .before .before .before .before .before in
+    (entry .pre .0, (c .before .before .before .components .ensures, (rw (c .before .before .greatest-part .ensures) (greatest-most _), entry .pre .1)))
 
 same-length : tie.Need-same-length
 same-length c = search needs
@@ -37,7 +41,7 @@ ratios-of-spec =
     tie.close
     (tie.spec
     components-requires
-    most-part-requires
+    greatest-part-requires
     count-requires
     ones-requires
     returns

@@ -1,5 +1,5 @@
--- Each turn of the loop passes one port more. The measure is how many are left. Assumes nothing.
-use Rattle.table.specs.Table.{portCount}
+-- Each turn of the loop passes one port more. The measure is how many are left.
+use Rattle.specification.specs.Table.{portCount}
 use Rattle.table.specs.Slices.{tableOf}
 use Rattle.weights.proofs.weights.Lessening.{least-none, least-row, least-taken, least-all}
 use Rattle.weights.specs.LeastRows.{LeastRows}
@@ -28,7 +28,9 @@ element-copy-out-c : tie.Need-element-copy-out-c Inv-loop μ-loop
 element-copy-out-c c = search needs
 
 take-lesser-requires : tie.Need-take-lesser-requires Inv-loop μ-loop
-take-lesser-requires c κs = (least-row (c .before .before .before .before .before .before .before .before .pre) (omega arith) (c .before .before .before .loop .inv), record { below = omega (arith, c .before .before .before .before .before .before .before .before .pre .well-formed .few-ports); long = c .before .before .before .before .before .before .before .before .pre .each _ (omega (arith, c .before .before .before .before .before .before .before .before .pre .well-formed .few-ports)) })
+take-lesser-requires c κs =
+    let entry = c .before .before .before .before .before .before .before .before in
+    (least-row (entry .pre) (omega arith) (c .before .before .before .loop .inv), record { below = omega (arith, entry .pre .well-formed .few-ports); long = entry .pre .each _ (omega (arith, entry .pre .well-formed .few-ports)) })
 
 add-p : tie.Need-add-p Inv-loop μ-loop
 add-p c = search needs
@@ -37,7 +39,10 @@ loop-less : tie.Need-loop-less Inv-loop μ-loop
 loop-less c = search needs
 
 loop-again : tie.Need-loop-again Inv-loop μ-loop
-loop-again c = least-taken (c .before .before .before .before .before .before .before .before .before .pre) (omega arith) (c .before .before .before .before .loop .inv) (c .take-lesser .ensures)
+loop-again c =
+    let at-loop = c .before .before .before .before in
+    let entry = at-loop .before .before .before .before .before in
+    least-taken (entry .pre) (omega arith) (at-loop .loop .inv) (c .take-lesser .ensures)
 
 returns : tie.Need-returns Inv-loop μ-loop
 returns c = least-all (c .before .loop .inv) (omega arith)

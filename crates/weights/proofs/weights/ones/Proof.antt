@@ -1,4 +1,4 @@
--- Each turn of the loop stores one weight more. The measure is how many ports are left. Assumes nothing.
+-- Each turn of the loop stores one weight more. The measure is how many ports are left.
 use Prim.Native.Nat.{_-_}
 use Rattle.weights.proofs.weights.Weighted.{OnesBelow, ones-none, ones-on, ones-all}
 use borrow.Author.Needs.{needs}

@@ -1,8 +1,8 @@
--- Each turn of the loop stores one weight more, or finds one above 10,000. The measure is how many ports are left. Assumes nothing.
+-- Each turn of the loop stores one weight more, or finds one above 10,000. The measure is how many ports are left.
 use Prim.Native.Nat.{_-_}
 use Rattle.table.specs.Slices.{tableOf}
 use native.Mathlib.Omega.{arith}
-use Rattle.table.specs.Table.{portCount}
+use Rattle.specification.specs.Table.{portCount}
 use Rattle.weights.proofs.weights.Weighted.{Weighted, labelled-rows, weighted-none, weighted-within, weighted-above, weighted-row, weighted-least, weighted-on, weighted-over, weighted-all}
 use borrow.Author.Needs.{needs}
 use Rattle.weights.proofs.weights.weigh.Statement.{statement}
@@ -36,16 +36,22 @@ slice-aggregate-quotient-within : tie.Need-slice-aggregate-quotient-within Inv-l
 slice-aggregate-quotient-within c = search needs
 
 quotient-within-requires : tie.Need-quotient-within-requires Inv-loop μ-loop
-quotient-within-requires c κs = (
-  c .before .before .before .before .before .all .ensures,
-  (
-    (weighted-row (c .before .before .before .before .before .before .before .before .before .before .pre .0) (c .before .before .before .before .before .before .least-rows .ensures) (omega arith), weighted-least (c .before .before .before .before .before .before .before .before .before .before .pre .0) (c .before .before .before .before .before .before .least-rows .ensures) (omega arith)),
-    (weighted-within (c .before .before .before .before .before .before .before .before .before .before .pre .0) (c .before .before .before .before .before .before .least-rows .ensures) (omega arith), weighted-above (c .before .before .before .before .before .before .before .before .before .before .pre .0) (c .before .before .before .before .before .before .least-rows .ensures) (omega arith) (c .before .before .before .before .before .before .before .before .before .before .pre .1)),
-  ),
-)
+quotient-within-requires c κs =
+    let at-all = c .before .before .before .before .before in
+    let at-least-rows = at-all .before in
+    let entry = at-least-rows .before .before .before .before in (
+      at-all .all .ensures,
+      (
+        (weighted-row (entry .pre .0) (at-least-rows .least-rows .ensures) (omega arith), weighted-least (entry .pre .0) (at-least-rows .least-rows .ensures) (omega arith)),
+        (weighted-within (entry .pre .0) (at-least-rows .least-rows .ensures) (omega arith), weighted-above (entry .pre .0) (at-least-rows .least-rows .ensures) (omega arith) (entry .pre .1)),
+      ),
+    )
 
 returns : tie.Need-returns Inv-loop μ-loop
-returns c = weighted-over (c .before .before .before .before .before .before .before .before .before .before .before .before .pre .0) (c .before .before .before .before .before .before .before .before .least-rows .ensures) (omega arith) (c .before .quotient-within .ensures) _ (omega arith)
+returns c =
+    let at-least-rows = c .before .before .before .before .before .before .before .before in
+    let entry = at-least-rows .before .before .before .before in
+    weighted-over (entry .pre .0) (at-least-rows .least-rows .ensures) (omega arith) (c .before .quotient-within .ensures) _ (omega arith)
 
 mul-weights : tie.Need-mul-weights Inv-loop μ-loop
 mul-weights c = search needs
@@ -60,10 +66,15 @@ loop-less : tie.Need-loop-less Inv-loop μ-loop
 loop-less c = search needs
 
 loop-again : tie.Need-loop-again Inv-loop μ-loop
-loop-again c = weighted-on (c .before .before .before .before .before .before .before .before .before .before .before .before .pre .0) (c .before .before .before .before .before .before .before .before .least-rows .ensures) (omega arith) (c .before .quotient-within .ensures) (c .before .before .before .before .before .before .loop .inv) (omega arith)
+loop-again c =
+    let given = c .before .before .before .before .before .before .before .before .before .before .before .before .pre in
+    let least = c .before .before .before .before .before .before .before .before .least-rows .ensures in
+    weighted-on (given .0) least (omega arith) (c .before .quotient-within .ensures) (c .before .before .before .before .before .before .loop .inv) (omega arith)
 
 returns-2 : tie.Need-returns-2 Inv-loop μ-loop
-returns-2 c = weighted-all (c .before .before .before .before .before .before .before .pre .0) (c .before .before .before .least-rows .ensures) (c .before .loop .inv) (omega arith)
+returns-2 c =
+    let entry = c .before .before .before .before .before .before .before in
+    weighted-all (entry .pre .0) (c .before .before .before .least-rows .ensures) (c .before .loop .inv) (omega arith)
 
 pub weigh-spec : {M : Type 1} → statement M
 weigh-spec =

@@ -1,0 +1,4 @@
+-- What the analysis of a table promises, what timing its components does, and the demands that follow.
+pub mod Timed
+pub mod Decided
+pub mod DemandedLaws

@@ -1,3 +1,0 @@
--- What the proofs of the slices use.
-mod Going
-mod Turns

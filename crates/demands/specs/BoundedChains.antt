@@ -1,0 +1,85 @@
+-- Demand 3's first half: no chain is later than its port's start and k periods.
+use Prim.Native.Nat.{ℕ, suc, _+_, _*_, _/_, _≤_, _<_}
+use mathlib.Core.Path.{_≡_, ap}
+use native.Mathlib.Nat.{div-mul-le-self, mul-le-mul-right, le-of-mul-le-mul-right}
+use native.Mathlib.Omega.{arith}
+use Rattle.numbers.specs.Rationals.{Rational, _≼_, _⊕_, _·_, share}
+use Rattle.table.specs.WellFormed.{WellFormed}
+use Rattle.specification.specs.Table.{Table, port, IsPort, IsLink, from, to, num, den, IsConnection, IsBuffer, ε⁺, ε⁻, δ⁺, δ⁻}
+use Rattle.ways.specs.WayLaws.{linked}
+use Rattle.specification.specs.Periods.{ConnectionIn}
+use Rattle.specification.specs.Answers.{Timing, periodOf, startOf, Consistent}
+use Rattle.specification.specs.Solutions.{ε}
+use Rattle.specification.specs.Chains.{Chain, first, spacing, connection, buffer, Bounded}
+use Rattle.demands.specs.ConstraintLaws.{from-port, to-port}
+use Rattle.demands.specs.SamePeriod.{same-period}
+
+-- a time at most the start of p and k of its periods, by products
+record Within (r : Timing) (p k : ℕ) (time : Rational) : Type 0 where
+  holds : time .plus * r .b p ≤ (r .start p + k * (r .weight p * r .a p)) * time .over + time .minus * r .b p
+
+-- the receiver of link n starts no earlier than the sender's start plus ε plus d⁺ − d⁻ of the sender's periods
+record Waits (t : Table) (r : Timing) (n d⁺ d⁻ : ℕ) : Type 0 where
+  holds : r .start (from t n) + ε⁺ t n * r .b (from t n) + d⁺ * (r .weight (from t n) * r .a (from t n))
+      ≤ r .start (to t n) + ε⁻ t n * r .b (from t n) + d⁻ * (r .weight (from t n) * r .a (from t n))
+
+within-bound : {r : Timing} {p k : ℕ} {time : Rational} → Within r p k time → time ≼ startOf r p ⊕ k · periodOf r p
+within-bound {r} {p} h = record { holds = omega (arith, mul-le-mul-right (r .b p) (h .holds)) }
+
+module _ {t : Table} {r : Timing} (formed : WellFormed t) (right : Consistent t r) where
+  chain-port : {p k : ℕ} {time : Rational} → Chain t (r .size) p k time → IsPort t p
+  chain-port (first p k i) = i
+  chain-port (spacing c some) = chain-port c
+  chain-port (connection n k i c e) = to-port formed n (i .a-link)
+  chain-port (buffer n k i c e) = to-port formed n (i .a-link)
+
+  within-spacing : {p k : ℕ} {time : Rational} → IsPort t p → (some : 0 < port t p .num) → Within r p k time
+      → Within r p (suc k) (time ⊕ share (port t p .den) (port t p .num) some)
+  within-spacing {p} {time = time} i some h = record {
+    holds = omega (
+      arith,
+      mul-le-mul-right (port t p .num) (h .holds),
+      mul-le-mul-right (time .over) (right .periods p i .serves .rates p (record { a-port = i; component = right .components p i })),
+    );
+  }
+
+  -- the sender's event times its weight is at most the receiver's, by (1)
+  floor-below : (n k : ℕ) → IsLink t n → k * den t n / num t n * r .weight (from t n) ≤ k * r .weight (to t n)
+  floor-below n k i = le-of-mul-le-mul-right {k = num t n} (omega (
+    arith,
+    mul-le-mul-right (r .weight (from t n)) (div-mul-le-self (k * den t n) (num t n)),
+    ap (λ (x : ℕ). k * x) (right .weights .weights .proportional .fits n i),
+  )) (formed .links n (i .below) .num .least)
+
+  -- from event m of the sender along link n to event k of the receiver
+  module _ (n k m : ℕ) {d⁺ d⁻ : ℕ} (i : IsLink t n) (waits : Waits t r n d⁺ d⁻) (e : m + d⁻ ≡ k * den t n / num t n + d⁺) where
+    events-below : r .start (from t n) + m * (r .weight (from t n) * r .a (from t n)) + ε⁺ t n * r .b (from t n)
+        ≤ r .start (to t n) + k * (r .weight (to t n) * r .a (from t n)) + ε⁻ t n * r .b (from t n)
+    events-below = omega (
+      arith,
+      mul-le-mul-right (r .a (from t n)) (floor-below n k i),
+      ap (λ (x : ℕ). x * (r .weight (from t n) * r .a (from t n))) e,
+    )
+
+    within-link : {time : Rational} → Within r (from t n) m time → Within r (to t n) k (time ⊕ ε t n)
+    within-link {time} h =
+        let same = same-period formed right (from-port formed n i) (to-port formed n i) (linked i) in
+        record { holds = rw (← (same .a), ← (same .b)) (omega (arith, h .holds, mul-le-mul-right (time .over) events-below)) }
+
+  size-waits : {n : ℕ} → IsBuffer t n → Waits t r n 0 (r .size n)
+  size-waits {n} i = record { holds = omega (arith, right .sizes n i .enough .holds) }
+
+  connection-waits : {n : ℕ} → IsConnection t n → Waits t r n (δ⁺ t n) (δ⁻ t n)
+  connection-waits {n} i =
+      let port = from-port formed n (i .a-link) in
+      let inside : ConnectionIn t (r .component (from t n)) n = record { connection = i; component = right .components (from t n) port } in
+      record { holds = omega (arith, right .starts (from t n) port .meets .holds n inside) }
+
+  within : {p k : ℕ} {time : Rational} → Chain t (r .size) p k time → Within r p k time
+  within (first p k i) = record { holds = omega arith }
+  within (spacing c some) = within-spacing (chain-port c) some (within c)
+  within (connection {m = m} n k i c e) = within-link n k m (i .a-link) (connection-waits i) e (within c)
+  within (buffer {m = m} n k i c e) = within-link n k m (i .a-link) (size-waits i) (omega arith) (within c)
+
+  pub bounded-chains : Bounded t (r .size) (periodOf r) (startOf r)
+  bounded-chains = record { bound = λ c. within-bound (within c) }

@@ -1,0 +1,12 @@
+-- The theorems: every right answer meets the demands.
+pub mod ConstraintLaws
+pub mod AnswerCases
+pub mod SolutionLaws
+pub mod Demands
+pub mod Room
+pub mod SamePeriod
+pub mod Demand2Laws
+pub mod OneAnswer
+pub mod BoundedChains
+pub mod TightPeriod
+pub mod Demand3Laws

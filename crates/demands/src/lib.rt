@@ -1,0 +1,1 @@
+// The theorems that every right answer meets the demands, in specs/ alone. This crate has no code.

@@ -1,3 +1,0 @@
--- What the proofs of the analysis use.
-mod Outcomes
-mod Arranging

@@ -1,0 +1,1 @@
+// General mathematics, in specs/ alone: rational numbers, divisors, primes and lists.

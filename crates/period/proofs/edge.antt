@@ -1,0 +1,2 @@
+-- What the proof of `edge::at` uses.
+mod Read

@@ -1,0 +1,3 @@
+-- What the proofs of `write_ports` and `write_buffers` use.
+mod Ports
+mod Buffers

@@ -1,0 +1,2 @@
+-- What the proof of `size_of` uses.
+mod Delays

@@ -1,0 +1,132 @@
+-- The answers, their numbers and records, and which answer is right for a byte string.
+use Prim.Native.Nat.{ℕ, zero, suc, _+_, _*_, _≤_, _<_}
+use mathlib.Core.Path.{_≡_}
+use mathlib.Core.Logic.{_≢_}
+use mathlib.Core.Bool.{cond}
+use mathlib.Core.List.{List, [], _∷_, _++_}
+use Rattle.numbers.specs.Rationals.{Rational, share}
+use Rattle.specification.specs.Table.{Table, portCount, linkCount, mostPorts, mostLinks, link, IsPort, IsBuffer, from, to, ε⁺, ε⁻}
+use Rattle.specification.specs.Reading.{readTable}
+use Rattle.specification.specs.Ratios.{Step, Component, IsComponent, DisagreeingLoop, SmallWeights, Overweight}
+use Rattle.specification.specs.Periods.{Graph, LeastStarts, RateLimit, CycleLimit, Blocks, Period, graphIn}
+use Rattle.specification.specs.Bytes.{portAnswer, portBytes, bufferAnswer, bufferBytes, loopAnswer, cycleAnswer, floorAnswer}
+
+-- what is returned of a consistent model: by port its component, weight, a, b and start times b; by number of a buffer its size
+pub record Timing : Type 0 where
+  pub component : ℕ → ℕ
+  pub weight : ℕ → ℕ
+  pub a : ℕ → ℕ
+  pub b : ℕ → ℕ
+  pub over : (p : ℕ) → 0 < b p
+  pub start : ℕ → ℕ
+  pub size : ℕ → ℕ
+
+-- a port's period is its weight times a/b
+abbrev pub periodOf : Timing → ℕ → Rational
+periodOf r p = share (r .weight p * r .a p) (r .b p) (r .over p)
+
+abbrev pub startOf : Timing → ℕ → Rational
+startOf r p = share (r .start p) (r .b p) (r .over p)
+
+-- what stands under every period: the rate limit of a port, or the lower limit of a cycle. "Floor" is document 01's word
+pub data Floor : Type 0 where
+  rate : (port : ℕ) → Floor
+  cycle : (connections : List ℕ) → Floor
+
+pub data Answer : Type 0 where
+  -- a number from 1 to 12
+  refused : ℕ → Answer
+  disagreeing : (loop : List Step) → Answer
+  overweight : Answer
+  blocked : Floor → (block : List ℕ) → Answer
+  consistent : Timing → Answer
+
+abbrev pub number : Answer → ℕ
+number (refused n) = n
+number (disagreeing loop) = 13
+number overweight = 14
+number (blocked floor block) = 15
+number (consistent r) = 0
+
+-- ---- the records of an answer, as bytes
+-- of each step of a loop the number of the connection or buffer and the direction, 0 along and 1 against
+abbrev pub loopNumbers : List Step → List ℕ
+loopNumbers [] = []
+loopNumbers (s ∷ loop) = s .number ∷ cond (s .against) 1 0 ∷ loopNumbers loop
+
+abbrev pub floorRecord : Floor → List ℕ
+floorRecord (rate p) = floorAnswer p
+floorRecord (cycle path) = cycleAnswer path
+
+-- one for each of the first n ports, in order
+unfoldable pub portRecords : Timing → ℕ → List ℕ
+portRecords r zero = []
+portRecords r (suc n) = portRecords r n ++ portAnswer (r .component n) (r .weight n) (r .a n) (r .b n) (r .start n)
+
+-- one for each buffer among the first n links, in order
+unfoldable pub bufferRecords : Table → Timing → ℕ → List ℕ
+bufferRecords t r zero = []
+bufferRecords t r (suc n) = bufferRecords t r n ++ cond (link t n .buffer) (bufferAnswer n (r .size n)) []
+
+abbrev pub records : Table → Answer → List ℕ
+records t (refused n) = []
+records t (disagreeing loop) = loopAnswer (loopNumbers loop)
+records t overweight = []
+records t (blocked floor block) = floorRecord floor ++ cycleAnswer block
+records t (consistent r) = portRecords r (portCount t) ++ bufferRecords t r (linkCount t)
+
+-- ---- which answers are right
+-- a/b is the floor
+abbrev pub IsFloor : Graph → Floor → ℕ → ℕ → Type 0
+IsFloor g (rate p) a b = RateLimit g p a b
+IsFloor g (cycle path) a b = CycleLimit g path a b
+
+module _ (t : Table) where
+  -- number 15: a floor and a blocking cycle, both of the lowest component without a period
+  pub record NoPeriod (floor : Floor) (block : List ℕ) : Type 0 where
+    pub w : ℕ → ℕ
+    pub weights : SmallWeights t w
+    pub c : ℕ
+    pub component : IsComponent t c
+    pub a : ℕ
+    pub b : ℕ
+    pub over : 0 < b
+    pub is-floor : IsFloor (graphIn t w c) floor a b
+    pub blocks : Blocks (graphIn t w c) block a b
+    pub lower : (d : ℕ) → IsComponent t d → d < c → (x : ℕ) × (y : ℕ) × Period (graphIn t w d) x y
+
+  module _ (r : Timing) where
+    -- so many events are enough for buffer k: the receiver's start is no less than the sender's plus ε minus d times the sender's period
+    pub record Enough (k d : ℕ) : Type 0 where
+      pub holds : r .start (from t k) + ε⁺ t k * r .b (from t k)
+          ≤ r .start (to t k) + ε⁻ t k * r .b (from t k) + d * (r .weight (from t k) * r .a (from t k))
+
+    pub record Size (k d : ℕ) : Type 0 where
+      pub enough : Enough k d
+      pub fewest : (e : ℕ) → Enough k e → d ≤ e
+
+    -- number 0: least periods, least starts, fewest events
+    pub record Consistent : Type 0 where
+      pub components : (p : ℕ) → IsPort t p → Component t p (r .component p)
+      pub weights : SmallWeights t (r .weight)
+      pub periods : (p : ℕ) → IsPort t p → Period (graphIn t (r .weight) (r .component p)) (r .a p) (r .b p)
+      pub starts : (p : ℕ) → IsPort t p → LeastStarts (graphIn t (r .weight) (r .component p)) (r .a p) (r .b p) (r .start)
+      pub sizes : (k : ℕ) → IsBuffer t k → Size k (r .size k)
+
+  -- the answers that are right for a table without a fault of 1 to 12
+  abbrev pub Right : Answer → Type 0
+  Right (refused n) = ⊥
+  Right (disagreeing loop) = DisagreeingLoop t loop
+  Right overweight = Overweight t
+  Right (blocked floor block) = NoPeriod floor block
+  Right (consistent r) = Consistent r
+
+-- the least answer buffer: 64 port answers and 256 buffer answers, 5,120 bytes
+abbrev pub leastRoom : ℕ
+leastRoom = mostPorts * portBytes + mostLinks * bufferBytes
+
+-- the answers to a byte string and an answer buffer of so many bytes, in the order of document 01's numbers
+pub record AnswerOf (s : List ℕ) (room : ℕ) (x : Answer) : Type 0 where
+  pub short : room < leastRoom → x ≡ refused 1
+  pub faulty : leastRoom ≤ room → readTable s .number ≢ 0 → x ≡ refused (readTable s .number)
+  pub right : leastRoom ≤ room → readTable s .number ≡ 0 → Right (readTable s .table) x

@@ -1,0 +1,11 @@
+-- What document 01 says, in the order in which it is to be read (docs/READING.md).
+pub mod Bytes
+pub mod Table
+pub mod Reading
+pub mod Ratios
+pub mod Periods
+pub mod Answers
+pub mod Solutions
+pub mod Chains
+pub mod Analysed
+pub mod Demanded

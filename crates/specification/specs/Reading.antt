@@ -1,0 +1,165 @@
+-- The table that bytes hold: its records are read from the front, each tried for 2 to 11 in order; the first faulty one decides.
+use Prim.Native.Nat.{ℕ, zero, suc, _+_, _-_}
+use mathlib.Core.Bool.{Bool, true, false, not, _&&_, _||_, cond}
+use mathlib.Core.List.{List, [], _∷_}
+use lib.ListN.{length}
+use lib.Dec.{ltb, leb, eqb}
+use Rattle.specification.specs.Bytes.{numberAt}
+use Rattle.specification.specs.Table.{mostPorts, mostLinks, mostPart, mostTicks, mostEvents, Table}
+use Rattle.specification.specs.declared.Ticks.{Ticks}
+use Rattle.specification.specs.declared.Events.{Events}
+use Rattle.specification.specs.declared.Port.{Port}
+use Rattle.specification.specs.declared.Link.{Link}
+use Rattle.specification.specs.declared.Before.{Before}
+use Rattle.specification.specs.declared.Read.{Read}
+use Rattle.specification.specs.declared.Read.the-variants.{PortRecord, LinkRecord, Refused, End}
+
+-- ---- one record
+-- two's complement in four bytes, as an amount forward and an amount back, one of them zero
+unfoldable pub forward : ℕ → ℕ
+forward v = cond (ltb v 2147483648) v 0
+
+unfoldable pub back : ℕ → ℕ
+back v = cond (ltb v 2147483648) 0 (4294967296 - v)
+
+-- the number of document 01 that reading a record gives
+abbrev pub numberOf : Read → ℕ
+numberOf (PortRecord p next) = 0
+numberOf (LinkRecord l next) = 0
+numberOf (Refused n) = n
+numberOf End = 0
+
+-- number n where the test finds the fault, else what follows
+abbrev pub refuse : ℕ → Bool → Read → Read
+refuse n true r = Refused n
+refuse n false r = r
+
+-- a single byte is left, or the length is below 2 or above what is left
+unfoldable pub lengthFaulty : List ℕ → ℕ → Bool
+lengthFaulty s at = ltb (length s - at) 2 || (ltb (numberAt s at 2) 2 || ltb (length s - at - 2) (numberAt s at 2))
+
+-- a part is 0 or above 1,000
+unfoldable pub partFaulty : ℕ → Bool
+partFaulty x = eqb x 0 || ltb mostPart x
+
+unfoldable pub partsFaulty : List ℕ → ℕ → Bool
+partsFaulty s at = partFaulty (numberAt s at 2) || partFaulty (numberAt s (at + 2) 2)
+
+-- from or to names no port
+unfoldable pub endsFaulty : List ℕ → ℕ → ℕ → Bool
+endsFaulty s at named = leb named (numberAt s at 2) || leb named (numberAt s (at + 2) 2)
+
+unfoldable pub ticksAt : List ℕ → ℕ → Ticks
+ticksAt s at = (forward (numberAt s at 4), back (numberAt s at 4))
+
+unfoldable pub eventsAt : List ℕ → ℕ → Events
+eventsAt s at = (forward (numberAt s at 4), back (numberAt s at 4))
+
+-- an amount forward or back is outside its range
+unfoldable pub amountFaulty : (most forward back : ℕ) → Bool
+amountFaulty most forward back = ltb most forward || ltb most back
+
+-- the fields of a port, from the place of the first
+unfoldable pub portOf : List ℕ → ℕ → Port
+portOf s at = record { num = numberAt s at 2; den = numberAt s (at + 2) 2 }
+
+-- the fields of a connection or buffer, from the place of the first
+unfoldable pub linkOf : List ℕ → ℕ → Ticks → Events → Bool → Link
+linkOf s at ticks events buffer = record {
+  from = numberAt s at 2;
+  to = numberAt s (at + 2) 2;
+  num = numberAt s (at + 4) 2;
+  den = numberAt s (at + 6) 2;
+  ticks = ticks;
+  events = events;
+  buffer = buffer;
+}
+
+-- kind 1, port, length 6
+unfoldable pub portAt : List ℕ → ℕ → ℕ → Before → Read
+portAt s at n before =
+    refuse 4 (not (eqb n 6))
+    (refuse 5 (not (before .«port_may_come»))
+    (refuse 6 (leb mostPorts (before .ports))
+    (refuse 8 (partsFaulty s (at + 4))
+    (PortRecord (portOf s (at + 4)) (at + 8)))))
+
+-- kinds 2 and 3 behind the test of their length
+unfoldable pub linkAt : List ℕ → ℕ → Before → Events → Bool → ℕ → Read
+linkAt s at before events buffer next =
+    refuse 7 (leb mostLinks (before .links))
+    (refuse 9 (endsFaulty s (at + 4) (before .named))
+    (refuse 10 (partsFaulty s (at + 8))
+    (refuse 11 (amountFaulty mostTicks (ticksAt s (at + 12) .0) (ticksAt s (at + 12) .1) || amountFaulty mostEvents (events .0) (events .1))
+    (LinkRecord (linkOf s (at + 4) (ticksAt s (at + 12)) events buffer) next))))
+
+-- kind 2, connection, length 18
+unfoldable pub connectionAt : List ℕ → ℕ → ℕ → Before → Read
+connectionAt s at n before = refuse 4 (not (eqb n 18)) (linkAt s at before (eventsAt s (at + 16)) false (at + 20))
+
+-- kind 3, buffer, length 14
+unfoldable pub bufferAt : List ℕ → ℕ → ℕ → Before → Read
+bufferAt s at n before = refuse 4 (not (eqb n 14)) (linkAt s at before (0, 0) true (at + 16))
+
+unfoldable pub kindAt : List ℕ → ℕ → ℕ → ℕ → Before → Read
+kindAt s at n kind before =
+    cond (eqb kind 1) (portAt s at n before)
+    (cond (eqb kind 2) (connectionAt s at n before)
+    (cond (eqb kind 3) (bufferAt s at n before)
+    (Refused 3)))
+
+-- none left ends the table
+unfoldable pub recordAt : List ℕ → ℕ → Before → Read
+recordAt s at before =
+    cond (leb (length s) at) End
+    (refuse 2 (lengthFaulty s at)
+    (kindAt s at (numberAt s at 2) (numberAt s (at + 2) 2) before))
+
+-- ---- all records
+-- the number of document 01, 0 where there is no fault, and what was read before the fault
+pub record Reading : Type 0 where
+  pub number : ℕ
+  pub table : Table
+
+-- what stands before the record behind a port, and behind a link: from and to name one port more; no port may come behind a link
+abbrev pub withPort : Before → Before
+withPort b = record { ports = b .ports + 1; links = b .links; named = b .named + 1; «port_may_come» = b .«port_may_come» }
+
+abbrev pub withLink : Before → Before
+withLink b = record { ports = b .ports; links = b .links + 1; named = b .named; «port_may_come» = false }
+
+abbrev pub nothing : ℕ → Reading
+nothing number = record { number = number; table = record { ports = []; links = [] } }
+
+abbrev pub addPort : Port → Reading → Reading
+addPort p r = record { number = r .number; table = record { ports = p ∷ r .table .ports; links = r .table .links } }
+
+abbrev pub addLink : Link → Reading → Reading
+addLink l r = record { number = r .number; table = record { ports = r .table .ports; links = l ∷ r .table .links } }
+
+-- what a record gives, where `rest` reads on from a place
+abbrev pub after : (ℕ → Before → Reading) → Before → Read → Reading
+after rest b (PortRecord p next) = addPort p (rest next (withPort b))
+after rest b (LinkRecord l next) = addLink l (rest next (withLink b))
+after rest b (Refused number) = nothing (numberOf (Refused number))
+after rest b End = nothing (numberOf End)
+
+-- the records from a place on. The first number bounds the records read; by `bound-decides-nothing` it decides nothing
+unfoldable pub readFrom : ℕ → List ℕ → ℕ → Before → Reading
+readFrom zero s at b = nothing 2
+readFrom (suc n) s at b = after (readFrom n s) b (recordAt s at b)
+
+-- the records of an input of its own, behind what was read before it; every record has a byte, so one more than the bytes are enough
+unfoldable pub readOn : List ℕ → Before → Reading
+readOn s b = readFrom (length s + 1) s 0 b
+
+-- nothing was read before
+abbrev pub start : Before
+start = record { ports = 0; links = 0; named = 0; «port_may_come» = true }
+
+-- 12 where there is no fault and no port
+abbrev pub somePort : Reading → Reading
+somePort r = record { number = cond (eqb (r .number) 0 && eqb (length (r .table .ports)) 0) 12 (r .number); table = r .table }
+
+unfoldable pub readTable : List ℕ → Reading
+readTable s = somePort (readOn s start)

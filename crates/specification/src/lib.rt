@@ -1,0 +1,50 @@
+// What document 01 says, as definitions (specs/), and the types that they and the code share. No function stands here.
+pub mod limits;
+
+// A span of time in ticks: an amount forward and an amount back.
+pub struct Ticks(pub u64, pub u64);
+
+// A number of events: an amount forward and an amount back.
+pub struct Events(pub u64, pub u64);
+
+// A port; its maximum rate is num / den events per tick.
+pub struct Port {
+    pub num: u64,
+    pub den: u64,
+}
+
+// A connection, or a buffer, which has no events. Its ratio is num / den.
+pub struct Link {
+    pub from: usize,
+    pub to: usize,
+    pub num: u64,
+    pub den: u64,
+    pub ticks: Ticks,
+    pub events: Events,
+    pub buffer: bool,
+}
+
+// What stands in the input before a record.
+pub struct Before {
+    // The ports and links so far: for the limits.
+    pub ports: usize,
+    pub links: usize,
+    // From and to name the ports below this number.
+    pub named: usize,
+    pub port_may_come: bool,
+}
+
+// The record at a place, with the place behind it.
+pub enum Read {
+    PortRecord(Port, usize),
+    LinkRecord(Link, usize),
+    Refused(u64),
+    End,
+}
+
+// What a call of the analysis returns: the number, and how many bytes of the answer buffer were written.
+#[repr(C)]
+pub struct Outcome {
+    pub number: u64,
+    pub written: usize,
+}

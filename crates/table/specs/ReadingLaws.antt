@@ -1,0 +1,166 @@
+-- What is known of a table that was read.
+use Prim.Native.Nat.{ℕ, zero, suc, _+_, _≤_, _<_}
+use mathlib.Core.Path.{_≡_, refl}
+use mathlib.Core.Logic.{_≢_}
+use mathlib.Core.Bool.{Bool, true, false, _&&_, cond}
+use mathlib.Core.List.{List, [], _∷_}
+use native.Mathlib.Omega.{arith}
+use native.Mathlib.Nat.{pos-of-ne-zero}
+use lib.ListN.{length, getD}
+use lib.Dec.{eqb}
+use borrow.Author.Tests.{eqb-true, eqb-false}
+use Rattle.specification.specs.Table.{noPort, noLink, mostPorts, mostLinks}
+use Rattle.table.specs.WellFormed.{PortFits, LinkFits, WellFormed}
+use Rattle.specification.specs.Reading.{recordAt, Reading, withPort, withLink, after, readFrom, readOn, start, readTable}
+use Rattle.table.specs.RecordLaws.{FaultNumber, Accepted, accepted}
+use Rattle.specification.specs.Demanded.{TableFault}
+use Rattle.specification.specs.declared.Port.{Port}
+use Rattle.specification.specs.declared.Link.{Link}
+use Rattle.specification.specs.declared.Before.{Before}
+use Rattle.specification.specs.declared.Read.{Read}
+use Rattle.specification.specs.declared.Read.the-variants.{PortRecord, LinkRecord, Refused, End}
+
+-- ---- the bound of the recursion decides nothing
+after-same : (s : List ℕ) (at : ℕ) (b : Before) (rest rest' : ℕ → Before → Reading) (r : Read) → Accepted s at b r
+    → ((next : ℕ) (c : Before) → at < next → next ≤ length s → rest next c ≡ rest' next c)
+    → after rest b r ≡ after rest' b r
+after-same s at b rest rest' (PortRecord p next) a same = rw (same next (withPort b) (omega (arith, a .onward)) (a .onward .within))
+after-same s at b rest rest' (LinkRecord l next) a same = rw (same next (withLink b) (omega (arith, a .onward)) (a .onward .within))
+after-same s at b rest rest' (Refused number) a same = refl
+after-same s at b rest rest' End a same = refl
+
+read-same : (s : List ℕ) (m n at : ℕ) (b : Before) → at ≤ length s → length s < m + at → length s < n + at
+    → readFrom m s at b ≡ readFrom n s at b
+unfolding readFrom
+read-same s zero n at b inside p q = absurd (omega arith)
+read-same s (suc m) zero at b inside p q = absurd (omega arith)
+read-same s (suc m) (suc n) at b inside p q =
+    after-same s at b (readFrom m s) (readFrom n s) (recordAt s at b) (accepted s at b)
+    (λ next c past within. read-same s m n next c within (omega arith) (omega arith))
+
+-- any bound above the number of bytes reads the same
+pub bound-decides-nothing : (s : List ℕ) (n : ℕ) (b : Before) → length s < n → readFrom n s 0 b ≡ readOn s b
+unfolding readOn
+bound-decides-nothing s n b h = read-same s n (length s + 1) 0 b (omega arith) (omega arith) (omega arith)
+
+-- ---- what was read is within the limits
+-- the links name ports below those that were there and those that were read
+pub record Fitting (b : Before) (ps : List Port) (ls : List Link) : Type 0 where
+  pub few-ports : b .ports ≤ mostPorts → b .ports + length ps ≤ mostPorts
+  pub few-links : b .links ≤ mostLinks → b .links + length ls ≤ mostLinks
+  pub ports : (p : ℕ) → p < length ps → PortFits (getD ps p noPort)
+  pub links : (k : ℕ) → k < length ls → LinkFits (b .named + length ps) (getD ls k noLink)
+
+nothing-fits : (b : Before) → Fitting b [] []
+nothing-fits b = record {
+  few-ports = λ h. omega arith;
+  few-links = λ h. omega arith;
+  ports = λ p h. absurd (omega arith);
+  links = λ k h. absurd (omega arith);
+}
+
+-- what holds of the first and of the others holds of all
+all-cons : {A : Type 0} (P : A → Type 0) (d x : A) (xs : List A) → P x → ((k : ℕ) → k < length xs → P (getD xs k d))
+    → (k : ℕ) → k < length (x ∷ xs)
+    → P (getD (x ∷ xs) k d)
+all-cons P d x xs first others zero h = first
+all-cons P d x xs first others (suc k) h = others k (omega arith)
+
+fits-more : {m : ℕ} {l : Link} (n : ℕ) → LinkFits m l → m ≤ n → LinkFits n l
+fits-more n f h = record {
+  from = omega (arith, f .from);
+  to = omega (arith, f .to);
+  num = f .num;
+  den = f .den;
+  ticks-forward = f .ticks-forward;
+  ticks-back = f .ticks-back;
+  events-forward = f .events-forward;
+  events-back = f .events-back;
+}
+
+after-fits : (s : List ℕ) (at : ℕ) (b : Before) (rest : ℕ → Before → Reading) (r : Read) → Accepted s at b r
+    → ((next : ℕ) (c : Before) → Fitting c (rest next c .table .ports) (rest next c .table .links))
+    → Fitting b (after rest b r .table .ports) (after rest b r .table .links)
+after-fits s at b rest (PortRecord p next) a each =
+    let f = each next (withPort b) in
+    let ps = rest next (withPort b) .table .ports in
+    let ls = rest next (withPort b) .table .links in
+    record {
+      few-ports = λ h. omega (arith, a .room, f .few-ports (omega (arith, a .room)));
+      few-links = λ h. f .few-links h;
+      ports = all-cons PortFits noPort p ps (a .fits) (f .ports);
+      links = λ k h. fits-more (b .named + suc (length ps)) (f .links k h) (omega arith);
+    }
+after-fits s at b rest (LinkRecord l next) a each =
+    let f = each next (withLink b) in
+    let ps = rest next (withLink b) .table .ports in
+    let ls = rest next (withLink b) .table .links in
+    record {
+      few-ports = λ h. f .few-ports h;
+      few-links = λ h. omega (arith, a .room, f .few-links (omega (arith, a .room)));
+      ports = f .ports;
+      links = all-cons (LinkFits (b .named + length ps)) noLink l ls (fits-more (b .named + length ps) (a .fits) (omega arith)) (f .links);
+    }
+after-fits s at b rest (Refused number) a each = nothing-fits b
+after-fits s at b rest End a each = nothing-fits b
+
+read-fits : (n : ℕ) (s : List ℕ) (at : ℕ) (b : Before) → Fitting b (readFrom n s at b .table .ports) (readFrom n s at b .table .links)
+unfolding readFrom
+read-fits zero s at b = nothing-fits b
+read-fits (suc n) s at b = after-fits s at b (readFrom n s) (recordAt s at b) (accepted s at b) (λ next c. read-fits n s next c)
+
+pub read-on-fits : (s : List ℕ) (b : Before) → Fitting b (readOn s b .table .ports) (readOn s b .table .links)
+unfolding readOn
+read-on-fits s b = read-fits (length s + 1) s 0 b
+
+-- ---- a table that is read with number 0 is well-formed
+some-ports : (n ports : ℕ) → cond (eqb n 0 && eqb ports 0) 12 n ≡ 0 → 0 < ports
+some-ports n ports h = decided (eqb n 0) (eqb ports 0) refl refl h
+  where
+    decided : (a b : Bool) → eqb n 0 ≡ a → eqb ports 0 ≡ b → cond (a && b) 12 n ≡ 0 → 0 < ports
+    decided true true e f h = absurd (omega (arith, h))
+    decided true false e f h = pos-of-ne-zero (eqb-false ports 0 f)
+    decided false b e f h = absurd (eqb-false n 0 e h)
+
+-- what a caller of the reader knows
+pub well-formed : (s : List ℕ) {r : Reading} → r ≡ readTable s → r .number ≡ 0 → WellFormed (r .table)
+unfolding readTable
+well-formed s e h =
+    let r = readOn s start in
+    let f = read-on-fits s start in
+    rw e (record {
+      some-port = some-ports (r .number) (length (r .table .ports)) (rw e at h);
+      few-ports = omega (arith, f .few-ports (omega arith));
+      few-links = omega (arith, f .few-links (omega arith));
+      ports = f .ports;
+      links = λ k b. fits-more (length (r .table .ports)) (f .links k b) (omega arith);
+    })
+
+-- ---- the number of a fault
+after-number : (s : List ℕ) (at : ℕ) (b : Before) (rest : ℕ → Before → Reading) (r : Read) → Accepted s at b r
+    → ((next : ℕ) (c : Before) → rest next c .number ≢ 0 → FaultNumber (rest next c .number))
+    → after rest b r .number ≢ 0
+    → FaultNumber (after rest b r .number)
+after-number s at b rest (PortRecord p next) a each f = each next (withPort b) f
+after-number s at b rest (LinkRecord l next) a each f = each next (withLink b) f
+after-number s at b rest (Refused number) a each f = a
+after-number s at b rest End a each f = absurd (f refl)
+
+from-number : (n : ℕ) (s : List ℕ) (at : ℕ) (b : Before) → readFrom n s at b .number ≢ 0 → FaultNumber (readFrom n s at b .number)
+unfolding readFrom
+from-number zero s at b f = omega arith
+from-number (suc n) s at b f = after-number s at b (readFrom n s) (recordAt s at b) (accepted s at b) (λ next c. from-number n s next c) f
+
+pub fault-number : (s : List ℕ) → readTable s .number ≢ 0 → TableFault (readTable s .number)
+unfolding readTable readOn
+fault-number s f = decided (eqb (r .number) 0) (eqb (length (r .table .ports)) 0) refl f
+  where
+    r : Reading
+    r = readFrom (length s + 1) s 0 start
+
+    decided : (a b : Bool) → eqb (r .number) 0 ≡ a → cond (a && b) 12 (r .number) ≢ 0 → TableFault (cond (a && b) 12 (r .number))
+    decided true true e g = record { least = omega arith; most = omega arith }
+    decided true false e g = absurd (g (eqb-true (r .number) 0 e))
+    decided false b e g =
+        let number = from-number (length s + 1) s 0 start g in
+        record { least = number .least; most = omega (arith, number .most) }

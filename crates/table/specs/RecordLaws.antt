@@ -1,0 +1,211 @@
+-- What is known of a record that was read.
+use Prim.Native.Nat.{ℕ, _+_, _-_, _≤_, _<_}
+use mathlib.Core.Path.{_≡_, refl}
+use mathlib.Core.Bool.{Bool, true, false, not, _||_, cond, true≢false}
+use mathlib.Core.List.{List}
+use native.Mathlib.Omega.{arith}
+use native.Mathlib.Nat.{pos-of-ne-zero}
+use lib.ListN.{length}
+use lib.Dec.{ltb, leb, eqb}
+use borrow.Author.Tests.{ltb-false, leb-false, eqb-false, eqb-true, not-false}
+use Rattle.specification.specs.Bytes.{numberAt}
+use Rattle.specification.specs.Table.{mostPorts, mostLinks, mostPart, mostTicks, mostEvents}
+use Rattle.table.specs.WellFormed.{PartFits, PortFits, LinkFits}
+use Rattle.specification.specs.Reading.{
+  refuse,
+  lengthFaulty,
+  partFaulty,
+  partsFaulty,
+  endsFaulty,
+  amountFaulty,
+  ticksAt,
+  eventsAt,
+  portOf,
+  linkOf,
+  portAt,
+  linkAt,
+  connectionAt,
+  bufferAt,
+  kindAt,
+  recordAt,
+}
+use Rattle.specification.specs.declared.Ticks.{Ticks}
+use Rattle.specification.specs.declared.Events.{Events}
+use Rattle.specification.specs.declared.Port.{Port}
+use Rattle.specification.specs.declared.Link.{Link}
+use Rattle.specification.specs.declared.Before.{Before}
+use Rattle.specification.specs.declared.Read.{Read}
+use Rattle.specification.specs.declared.Read.the-variants.{PortRecord, LinkRecord, Refused, End}
+
+-- the place behind a record of so many bytes or more is within the table
+pub record Onward (s : List ℕ) (at bytes next : ℕ) : Type 0 where
+  pub past : at + bytes ≤ next
+  pub within : next ≤ length s
+
+-- a port record: there was room for it, it could come here, and its rate is within the limits
+pub record PortAccepted (s : List ℕ) (at : ℕ) (before : Before) (p : Port) (next : ℕ) : Type 0 where
+  pub onward : Onward s at 8 next
+  pub room : before .ports < mostPorts
+  pub may-come : before .«port_may_come» ≡ true
+  pub fits : PortFits p
+
+-- a connection or buffer: there was room for it, and it is within the limits
+pub record LinkAccepted (s : List ℕ) (at : ℕ) (before : Before) (l : Link) (next : ℕ) : Type 0 where
+  pub onward : Onward s at 16 next
+  pub room : before .links < mostLinks
+  pub fits : LinkFits (before .named) l
+
+-- a refusal has one of the numbers 2 to 11
+pub record FaultNumber (n : ℕ) : Type 0 where
+  pub least : 2 ≤ n
+  pub most : n ≤ 11
+
+-- what reading a record tells, by its outcome
+abbrev pub Accepted : List ℕ → ℕ → Before → Read → Type 0
+Accepted s at before (PortRecord p next) = PortAccepted s at before p next
+Accepted s at before (LinkRecord l next) = LinkAccepted s at before l next
+Accepted s at before (Refused n) = FaultNumber n
+Accepted s at before End = Unit
+
+-- neither of two tests finds a fault
+record Neither (a b : Bool) : Type 0 where
+  left : a ≡ false
+  right : b ≡ false
+
+neither : (a b : Bool) → (a || b) ≡ false → Neither a b
+neither true b h = absurd (true≢false h)
+neither false b h = record { left = refl; right = h }
+
+-- a length without fault
+pub record Whole (s : List ℕ) (at : ℕ) : Type 0 where
+  pub least : 2 ≤ numberAt s at 2
+  pub ends : at + 2 + numberAt s at 2 ≤ length s
+
+pub whole : (s : List ℕ) (at : ℕ) → lengthFaulty s at ≡ false → Whole s at
+unfolding lengthFaulty
+whole s at h =
+    let outer = neither (ltb (length s - at) 2) (ltb (numberAt s at 2) 2 || ltb (length s - at - 2) (numberAt s at 2)) h in
+    let inner = neither (ltb (numberAt s at 2) 2) (ltb (length s - at - 2) (numberAt s at 2)) (outer .right) in
+    let left = ltb-false (length s - at) 2 (outer .left) in
+    let low = ltb-false (numberAt s at 2) 2 (inner .left) in
+    let high = ltb-false (length s - at - 2) (numberAt s at 2) (inner .right) in
+    record { least = low; ends = omega arith }
+
+part-fits : (x : ℕ) → partFaulty x ≡ false → PartFits x
+unfolding partFaulty
+part-fits x h =
+    let both = neither (eqb x 0) (ltb mostPart x) h in
+    record { least = pos-of-ne-zero (eqb-false x 0 (both .left)); most = ltb-false mostPart x (both .right) }
+
+record PartsFit (s : List ℕ) (at : ℕ) : Type 0 where
+  num : PartFits (numberAt s at 2)
+  den : PartFits (numberAt s (at + 2) 2)
+
+parts-fit : (s : List ℕ) (at : ℕ) → partsFaulty s at ≡ false → PartsFit s at
+unfolding partsFaulty
+parts-fit s at h =
+    let both = neither (partFaulty (numberAt s at 2)) (partFaulty (numberAt s (at + 2) 2)) h in
+    record { num = part-fits (numberAt s at 2) (both .left); den = part-fits (numberAt s (at + 2) 2) (both .right) }
+
+record EndsFit (s : List ℕ) (at named : ℕ) : Type 0 where
+  from : numberAt s at 2 < named
+  to : numberAt s (at + 2) 2 < named
+
+ends-fit : (s : List ℕ) (at named : ℕ) → endsFaulty s at named ≡ false → EndsFit s at named
+unfolding endsFaulty
+ends-fit s at named h =
+    let both = neither (leb named (numberAt s at 2)) (leb named (numberAt s (at + 2) 2)) h in
+    record { from = leb-false named (numberAt s at 2) (both .left); to = leb-false named (numberAt s (at + 2) 2) (both .right) }
+
+record AmountFits (most forward back : ℕ) : Type 0 where
+  above : forward ≤ most
+  below : back ≤ most
+
+amount-fits : (most forward back : ℕ) → amountFaulty most forward back ≡ false → AmountFits most forward back
+unfolding amountFaulty
+amount-fits most forward back h =
+    let both = neither (ltb most forward) (ltb most back) h in
+    record { above = ltb-false most forward (both .left); below = ltb-false most back (both .right) }
+
+module _ (s : List ℕ) (at : ℕ) (before : Before) where
+  -- `Accepted` by a name of its own, so that the read record is inferred
+  record Tells (r : Read) : Type 0 where
+    told : Accepted s at before r
+
+  -- what holds of each refusal, and behind each test, holds of the chain of tests
+  behind : (n : ℕ) → FaultNumber n → (test : Bool) (r : Read) → (test ≡ false → Tells r) → Tells (refuse n test r)
+  behind n number true r f = record { told = number }
+  behind n number false r f = f refl
+
+  either : (test : Bool) (r r' : Read) → Tells r → Tells r' → Tells (cond test r r')
+  either true r r' t t' = t
+  either false r r' t t' = t'
+
+  sized : (n m : ℕ) → not (eqb n m) ≡ false → n ≡ m
+  sized n m size = eqb-true n m (not-false (eqb n m) size)
+
+  tells-port : (n : ℕ) → at + 2 + n ≤ length s → Tells (portAt s at n before)
+  unfolding portAt portOf
+  tells-port n ends = behind 4 (omega arith) _ _ (λ size. behind 5 (omega arith) _ _ (λ may. behind 6 (omega arith) _ _ (λ room. behind 8 (omega arith) _ _ (λ parts. record { told = told size may room parts }))))
+    where
+      told : not (eqb n 6) ≡ false → not (before .«port_may_come») ≡ false → leb mostPorts (before .ports) ≡ false
+          → partsFaulty s (at + 4) ≡ false
+          → PortAccepted s at before (portOf s (at + 4)) (at + 8)
+      told size may room parts =
+          let fit = parts-fit s (at + 4) parts in
+          record {
+            onward = omega (arith, sized n 6 size);
+            room = leb-false mostPorts (before .ports) room;
+            may-come = not-false (before .«port_may_come») may;
+            fits = record { num = fit .num; den = fit .den };
+          }
+
+  tells-link : (events : Events) (buffer : Bool) (next : ℕ) → Onward s at 16 next → Tells (linkAt s at before events buffer next)
+  unfolding linkAt linkOf
+  tells-link events buffer next onward = behind 7 (omega arith) _ _ (λ room. behind 9 (omega arith) _ _ (λ ends. behind 10 (omega arith) _ _ (λ parts. behind 11 (omega arith) _ _ (λ amounts. record { told = told room ends parts amounts }))))
+    where
+      ticks : Ticks
+      ticks = ticksAt s (at + 12)
+
+      told : leb mostLinks (before .links) ≡ false → endsFaulty s (at + 4) (before .named) ≡ false → partsFaulty s (at + 8) ≡ false
+          → (amountFaulty mostTicks (ticks .0) (ticks .1) || amountFaulty mostEvents (events .0) (events .1)) ≡ false
+          → LinkAccepted s at before (linkOf s (at + 4) ticks events buffer) next
+      told room ends parts amounts =
+          let e = ends-fit s (at + 4) (before .named) ends in
+          let p = parts-fit s (at + 8) parts in
+          let both = neither (amountFaulty mostTicks (ticks .0) (ticks .1)) (amountFaulty mostEvents (events .0) (events .1)) amounts in
+          let t = amount-fits mostTicks (ticks .0) (ticks .1) (both .left) in
+          let v = amount-fits mostEvents (events .0) (events .1) (both .right) in
+          let num : at + 4 + 4 ≡ at + 8 = omega arith in
+          let den : at + 4 + 6 ≡ at + 8 + 2 = omega arith in
+          record {
+            onward = onward;
+            room = leb-false mostLinks (before .links) room;
+            fits = record {
+              from = e .from;
+              to = e .to;
+              num = rw num (p .num);
+              den = rw den (p .den);
+              ticks-forward = t .above;
+              ticks-back = t .below;
+              events-forward = v .above;
+              events-back = v .below;
+            };
+          }
+
+  tells-kind : (n kind : ℕ) → at + 2 + n ≤ length s → Tells (kindAt s at n kind before)
+  unfolding kindAt connectionAt bufferAt
+  tells-kind n kind ends =
+      either (eqb kind 1) _ _ (tells-port n ends)
+      (either (eqb kind 2) _ _ (behind 4 (omega arith) (not (eqb n 18)) _ (λ size. tells-link (eventsAt s (at + 16)) false (at + 20) (omega (arith, sized n 18 size))))
+      (either (eqb kind 3) _ (Refused 3) (behind 4 (omega arith) (not (eqb n 14)) _ (λ size. tells-link (0, 0) true (at + 16) (omega (arith, sized n 14 size)))) (record { told = omega arith })))
+
+  -- reading a record tells this
+  pub accepted : Accepted s at before (recordAt s at before)
+  unfolding recordAt
+  accepted = tells .told
+    where
+      tells : Tells (recordAt s at before)
+      tells =
+          either (leb (length s) at) End _ (record { told = tt })
+          (behind 2 (omega arith) _ _ (λ size. tells-kind (numberAt s at 2) (numberAt s (at + 2) 2) (whole s at size .ends)))

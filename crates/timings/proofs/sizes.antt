@@ -1,2 +1,0 @@
--- What the proof of `size_of` uses. Assumes nothing.
-mod Delays

@@ -1,4 +1,0 @@
--- The periods, starts and sizes of a table as numbers, and what naming a floor and a block asks.
-pub mod Timings
-pub mod Sizes
-pub mod Named

@@ -1,2 +1,0 @@
--- What the exported analysis promises.
-pub mod Exported
