@@ -1,7 +1,7 @@
 //! The analysis of document 01 in ordinary Rust, apart from the parts in which its two implementations differ.
 
 use crate::answers;
-use crate::model::{each, read, Components, Model, Port, MOST_PORTS};
+use crate::model::{each, read, Components, Fault, Model, Port, MOST_PORTS};
 
 const LEAST_ANSWER: usize = 5_120;
 
@@ -104,33 +104,47 @@ pub struct Timing {
     pub starts: [i64; MOST_PORTS],
 }
 
-/// Answers the number and the bytes written; all other bytes of the answer keep their values.
-pub fn analyse<M: Method>(table: &[u8], answer: &mut [u8]) -> (u64, usize) {
+/// What an analysis answers: the number, its place, and how many bytes it wrote.
+pub struct Outcome {
+    pub number: u64,
+    pub place: usize,
+    pub written: usize,
+}
+
+/// All bytes of the answer but the written ones keep their values.
+pub fn analyse<M: Method>(table: &[u8], answer: &mut [u8]) -> Outcome {
     if answer.len() < LEAST_ANSWER {
-        return (1, 0);
+        return Outcome { number: 1, place: 0, written: 0 };
     }
-    let model = match read(table) {
-        Ok(model) => model,
-        Err(number) => return (number, 0),
-    };
+    match read(table) {
+        Ok(model) => {
+            let (number, written) = decide::<M>(&model, answer);
+            Outcome { number, place: 0, written }
+        }
+        Err(Fault { number, place }) => Outcome { number, place, written: 0 },
+    }
+}
+
+/// The number of a model without a fault, and the bytes written.
+fn decide<M: Method>(model: &Model, answer: &mut [u8]) -> (u64, usize) {
     let mut weighed = Weighed { components: Components::ALONE, weights: [1; MOST_PORTS] };
-    match M::weigh(&model, &mut weighed) {
+    match M::weigh(model, &mut weighed) {
         Ok(()) => (),
         Err(Unweighed::Disagreeing(steps)) => return (13, answers::write_loop(answer, &steps)),
         Err(Unweighed::Heavy) => return (14, 0),
     }
     let mut timing = Timing { periods: [Period { a: 0, b: 0 }; MOST_PORTS], starts: [0; MOST_PORTS] };
-    let mut method = M::new(&model, &weighed);
+    let mut method = M::new(model, &weighed);
     for name in weighed.components.names(model.ports.len()) {
         let members = weighed.components.members(name);
         method.choose(members);
-        let (port, limit) = greatest_limit(&model, &weighed.weights, members);
+        let (port, limit) = greatest_limit(model, &weighed.weights, members);
         match least_period(&mut method, port, limit, &mut timing.starts) {
             Ok(period) => timing.periods[name] = period,
             Err(blocked) => return (15, answers::write_blocked(answer, &blocked)),
         }
     }
-    (0, answers::write_consistent(answer, &model, &weighed, &timing))
+    (0, answers::write_consistent(answer, model, &weighed, &timing))
 }
 
 /// The greatest of the rate limits, denominator over numerator times weight, and its port.

@@ -11,12 +11,13 @@ mod proved;
 mod stack;
 mod validate;
 
+use analysis::Outcome;
 use std::fmt::Write;
 use std::hint::black_box;
 use std::process::exit;
 use std::time::Instant;
 
-type Analyse = fn(&[u8], &mut [u8]) -> (u64, usize);
+type Analyse = fn(&[u8], &mut [u8]) -> Outcome;
 
 const SIDES: [(&str, Analyse); 3] =
     [("proved", proved::analyse), ("ordinary", ordinary::analyse), ("in place", in_place::analyse)];
@@ -58,7 +59,7 @@ fn compare() {
             }
         }
     }
-    println!("compared: {COMPARED} inputs, no difference in number, bytes written or any byte of the answer buffer");
+    println!("compared: {COMPARED} inputs, no difference in number, place, bytes written or any byte of the answer buffer");
     println!("between proved, ordinary and in place; for 13 and 15, where which records are shown is free, each side's were");
     println!("checked instead, and proved and ordinary show the same ones in {same} of {free} cases");
     for (number, count) in counts.iter().enumerate() {
@@ -79,6 +80,7 @@ fn fit_stack() {
 struct Answered {
     side: &'static str,
     number: u64,
+    place: usize,
     written: Vec<u8>,
 }
 
@@ -95,16 +97,17 @@ fn same_answer(table: &[u8], room: usize) -> Result<Agreed, String> {
     let mut sides = Vec::with_capacity(SIDES.len());
     for (side, analyse) in SIDES {
         let mut answer = pattern.clone();
-        let (number, written) = analyse(table, &mut answer);
+        let Outcome { number, place, written } = analyse(table, &mut answer);
         if written > room || answer[written..] != pattern[written..] {
             return Err(format!("answer {number}: {side} changes bytes past the {written} written"));
         }
         answer.truncate(written);
-        sides.push(Answered { side, number, written: answer });
+        sides.push(Answered { side, number, place, written: answer });
     }
     let proved = &sides[0];
-    if let Some(other) = sides.iter().find(|other| other.number != proved.number) {
-        return Err(format!("{} answers {}, {} {}", proved.side, proved.number, other.side, other.number));
+    if let Some(other) = sides.iter().find(|other| (other.number, other.place) != (proved.number, proved.place)) {
+        let said = |answered: &Answered| format!("{} answers {} at {}", answered.side, answered.number, answered.place);
+        return Err(format!("{}, {}", said(proved), said(other)));
     }
     match proved.number {
         13 => {

@@ -94,59 +94,76 @@ impl Components {
     }
 }
 
-/// The model of a table, or the number of the first fault.
-pub fn read(table: &[u8]) -> Result<Model, u64> {
+/// The number of a table's first fault, and the byte at which the faulty record begins; 12 has place 0.
+pub struct Fault {
+    pub number: u64,
+    pub place: usize,
+}
+
+/// The model of a table, or its first fault.
+pub fn read(table: &[u8]) -> Result<Model, Fault> {
     // a port takes 8 bytes, the shortest link 16
-    let mut ports = Vec::with_capacity(MOST_PORTS.min(table.len() / 8));
-    let mut links = Vec::with_capacity(MOST_LINKS.min(table.len() / 16));
-    let mut rest = table;
-    while !rest.is_empty() {
-        if rest.len() < 2 {
-            return Err(2);
-        }
-        let length = u16_at(rest, 0) as usize;
-        if length < 2 || length > rest.len() - 2 {
-            return Err(2);
-        }
-        let (record, after) = rest[2..].split_at(length);
-        rest = after;
-        match u16_at(record, 0) {
-            1 => {
-                let record: &[u8; 6] = record.try_into().map_err(|_| 4u64)?;
-                if !links.is_empty() {
-                    return Err(5);
-                }
-                if ports.len() == MOST_PORTS {
-                    return Err(6);
-                }
-                ports.push(read_port(record)?);
-            }
-            2 => {
-                let record: &[u8; 18] = record.try_into().map_err(|_| 4u64)?;
-                if links.len() == MOST_LINKS {
-                    return Err(7);
-                }
-                let mut link = read_link(record, ports.len(), false)?;
-                link.events = i32_at(record, 14);
-                if !(-MOST_EVENTS..=MOST_EVENTS).contains(&link.events) {
-                    return Err(11);
-                }
-                links.push(link);
-            }
-            3 => {
-                let record: &[u8; 14] = record.try_into().map_err(|_| 4u64)?;
-                if links.len() == MOST_LINKS {
-                    return Err(7);
-                }
-                links.push(read_link(record, ports.len(), true)?);
-            }
-            _ => return Err(3),
+    let ports = Vec::with_capacity(MOST_PORTS.min(table.len() / 8));
+    let links = Vec::with_capacity(MOST_LINKS.min(table.len() / 16));
+    let mut model = Model { ports, links };
+    let mut at = 0;
+    while at < table.len() {
+        match read_record(&table[at..], &mut model) {
+            Ok(size) => at += size,
+            Err(number) => return Err(Fault { number, place: at }),
         }
     }
-    if ports.is_empty() {
-        return Err(12);
+    if model.ports.is_empty() {
+        return Err(Fault { number: 12, place: 0 });
     }
-    Ok(Model { ports, links })
+    Ok(model)
+}
+
+/// Adds the first record to the model. Answers its size in bytes, or the number of its fault.
+#[inline(always)]
+fn read_record(rest: &[u8], model: &mut Model) -> Result<usize, u64> {
+    let Model { ports, links } = model;
+    if rest.len() < 2 {
+        return Err(2);
+    }
+    let length = u16_at(rest, 0) as usize;
+    if length < 2 || length > rest.len() - 2 {
+        return Err(2);
+    }
+    let record = &rest[2..2 + length];
+    match u16_at(record, 0) {
+        1 => {
+            let record: &[u8; 6] = record.try_into().map_err(|_| 4u64)?;
+            if !links.is_empty() {
+                return Err(5);
+            }
+            if ports.len() == MOST_PORTS {
+                return Err(6);
+            }
+            ports.push(read_port(record)?);
+        }
+        2 => {
+            let record: &[u8; 18] = record.try_into().map_err(|_| 4u64)?;
+            if links.len() == MOST_LINKS {
+                return Err(7);
+            }
+            let mut link = read_link(record, ports.len(), false)?;
+            link.events = i32_at(record, 14);
+            if !(-MOST_EVENTS..=MOST_EVENTS).contains(&link.events) {
+                return Err(11);
+            }
+            links.push(link);
+        }
+        3 => {
+            let record: &[u8; 14] = record.try_into().map_err(|_| 4u64)?;
+            if links.len() == MOST_LINKS {
+                return Err(7);
+            }
+            links.push(read_link(record, ports.len(), true)?);
+        }
+        _ => return Err(3),
+    }
+    Ok(2 + length)
 }
 
 fn read_port(record: &[u8; 6]) -> Result<Port, u64> {

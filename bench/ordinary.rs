@@ -1,11 +1,11 @@
 //! The method of the proved code in ordinary Rust: components by labels, ratios by rows of prime exponents, least periods by
 //! rounds of starts, each of which uses only the starts before it.
 
-use crate::analysis::{self, Cycle, Method, Period, Step, Unweighed, Weighed};
+use crate::analysis::{self, Cycle, Method, Outcome, Period, Step, Unweighed, Weighed};
 use crate::exponents::{multiply, COLUMNS, PRIME, PRIMES};
 use crate::model::{each, Components, Link, Model, MOST_PORTS, MOST_WEIGHT};
 
-pub fn analyse(table: &[u8], answer: &mut [u8]) -> (u64, usize) {
+pub fn analyse(table: &[u8], answer: &mut [u8]) -> Outcome {
     analysis::analyse::<Rounds>(table, answer)
 }
 

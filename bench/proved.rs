@@ -3,9 +3,10 @@
 #[path = "../bindings/vundayre.rs"]
 mod vundayre;
 
+use crate::analysis::Outcome;
 pub use vundayre::{ANSWER_BYTES, STACK_BYTES};
 
-pub fn analyse(table: &[u8], answer: &mut [u8]) -> (u64, usize) {
-    let (number, records) = vundayre::analyse(table, answer);
-    (number, records.len())
+pub fn analyse(table: &[u8], answer: &mut [u8]) -> Outcome {
+    let answer = vundayre::analyse(table, answer);
+    Outcome { number: answer.number, place: answer.place, written: answer.records.len() }
 }

@@ -1,4 +1,5 @@
-/* The timing check of Vundayre, for C and C++. Link with libvundayre.a (rt staticlib vundayre). */
+/* The timing check of Vundayre, for C and C++. Link with libvundayre.a (rt staticlib vundayre) of the same version: the layout below is no
+   other version's. */
 #ifndef VUNDAYRE_H
 #define VUNDAYRE_H
 
@@ -12,13 +13,15 @@ extern "C" {
 /* An answer buffer of this many bytes suffices for every table; a shorter one is refused with number 1. */
 #define VUNDAYRE_ANSWER_BYTES 5120
 
-/* A thread with a stack of this many bytes can analyse every table (its frames take 90,400 of them and it does not recurse; bench/run tries it
+/* A thread with a stack of this many bytes can analyse every table (its frames take 90,448 of them and it does not recurse; bench/run tries it
    out; it is not proved). */
 #define VUNDAYRE_STACK_BYTES 98304
 
 struct vundayre_outcome {
     /* Document 01's number: 0 is consistent, 1 to 15 are refusals. */
     uint64_t number;
+    /* Of 2 to 11 the byte of the table at which the faulty record begins, counted from 0; of every other number 0. */
+    size_t place;
     /* How many bytes of the answer buffer were written, from its first byte on. */
     size_t written;
 };

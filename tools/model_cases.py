@@ -1,9 +1,10 @@
 #!/usr/bin/env python3
 """Writes crates/models/stdin and stdout: tables that the program `models` is run on, and what it prints of them.
 
-The tables are those of the examples, models at the edges, random models, and one or more for each number without a model. What the program
-prints is checked, answer by answer, before it is written: number and lines by the exact solver of solver.py, or as said here beside the table;
-the loop, floor or block that is shown, which is free, by shown.py. Where an answer is wrong nothing is written, and the status is 1."""
+The tables are those of the examples, models at the edges, random models, one or more for each number without a model, and random models with
+a fault in their bytes. What the program prints is checked, answer by answer, before it is written: number and lines by the exact solver of
+solver.py, number and place of a fault by reader.py, or as said here beside the table; the loop, floor or block that is shown, which is free,
+by shown.py. Where an answer is wrong nothing is written, and the status is 1."""
 import argparse
 import glob
 import os
@@ -15,30 +16,42 @@ import sys
 from collections import Counter
 
 from model import Link, Model, Port, link_bytes, port_bytes, record, table_bytes
+from reader import first_fault
 from shown import Wrong, check_blocked, check_loop
+from solver import analyse, answer_line, printed
 from table_text import read_text
-from solver import analyse, printed
 
 random.seed(20261115)
 
 BASE = os.path.dirname(os.path.dirname(os.path.abspath(__file__)))
 PORT = port_bytes(Port())
+CONNECTION = link_bytes(Link(0, 0))
+# The most ports and links, in 5,632 bytes: no fault has a later place.
+FULL = PORT * 64 + CONNECTION * 256
 
 # Tables without a model, each with what is printed of it.
 REFUSED = [
-    (b'\x06', 'answer 2\n'),
-    (PORT + record(4, b''), 'answer 3\n'),
-    (PORT + record(1, b''), 'answer 4\n'),
-    (PORT + link_bytes(Link(0, 0)) + PORT, 'answer 5\n'),
-    (PORT * 65, 'answer 6\n'),
-    (PORT * 8192, 'answer 6\n'),  # exactly 65,536 bytes
+    (b'\x06', 'answer 2 at 0\n'),
+    (PORT + record(4, b''), 'answer 3 at 8\n'),
+    (PORT + record(1, b''), 'answer 4 at 8\n'),
+    (PORT + CONNECTION + PORT, 'answer 5 at 28\n'),
+    (PORT * 65, 'answer 6 at 512\n'),
+    (PORT * 8192, 'answer 6 at 512\n'),  # exactly 65,536 bytes
     (PORT * 8192 + b'\x06', 'answer long\n'),
-    (PORT + link_bytes(Link(0, 0)) * 257, 'answer 7\n'),
-    (port_bytes(Port(0, 1)), 'answer 8\n'),
-    (PORT + link_bytes(Link(0, 1)), 'answer 9\n'),
-    (PORT + link_bytes(Link(0, 0, 1, 0)), 'answer 10\n'),
-    (PORT + link_bytes(Link(0, 0, ticks=10_000_001)), 'answer 11\n'),
-    (b'', 'answer 12\n'),
+    (PORT + CONNECTION * 257, 'answer 7 at 5128\n'),
+    (port_bytes(Port(0, 1)), 'answer 8 at 0\n'),
+    (PORT + link_bytes(Link(0, 1)), 'answer 9 at 8\n'),
+    (PORT + link_bytes(Link(0, 0, 1, 0)), 'answer 10 at 8\n'),
+    (PORT * 2 + CONNECTION + link_bytes(Link(0, 1, ticks=10_000_001)), 'answer 11 at 36\n'),  # change request F-1
+    (b'', 'answer 12 at 0\n'),
+    # the latest places, with bytes behind them up to 65,536
+    (FULL + b'\x06', 'answer 2 at 5632\n'),
+    (FULL + PORT * 7488, 'answer 5 at 5632\n'),
+    (FULL + CONNECTION * 2995 + b'\x12\x00\x02\x00', 'answer 7 at 5632\n'),
+    # a record of 65,000 bytes is itself the first fault
+    (record(9, bytes(64_996)) + PORT, 'answer 3 at 0\n'),
+    (PORT + record(2, bytes(64_996)) + port_bytes(Port(0, 1)), 'answer 4 at 8\n'),
+    (PORT * 64 + record(1, bytes(64_996)) + b'\x06', 'answer 4 at 512\n'),
 ]
 
 FAST = Port(1000, 1)
@@ -161,18 +174,79 @@ def large():
     return long_chain(ports)
 
 
+def faulty_record(model):
+    """The bytes of a record with a fault, or of a part of one."""
+    kind = random.randrange(8)
+    port = random.randrange(len(model.ports))
+    if kind == 0:
+        return random.choice((b'\x06', b'\x01\x00', b'\x00\x00\x01\x00', b'\x07\x01\x01\x00'))
+    if kind == 1:
+        return record(random.choice((0, 4, 5, 16, 256, 65535)), bytes(random.randrange(20)))
+    if kind == 2:
+        return record(random.randint(1, 3), bytes(random.choice((0, 3, 5, 11, 13, 15, 17))))
+    if kind == 3:
+        return port_bytes(Port(*random.choice(((0, 1), (1, 0), (1001, 1), (1, 65535)))))
+    link = Link(port, port, events=random.choice((0, None)))
+    if kind == 4:
+        link.start = len(model.ports) + random.randrange(3)
+    elif kind == 5:
+        link.den = random.choice((0, 1001))
+    elif kind == 6:
+        link.ticks = random.choice((10_000_001, -10_000_001, -2 ** 31, 2 ** 31 - 1))
+    else:
+        link.events = random.choice((1001, -1001, -2 ** 31))
+    return link_bytes(link)
+
+
+def faulty_table(model):
+    """The table of a model with a faulty record, with a record again elsewhere, or with other bytes."""
+    records = [*map(port_bytes, model.ports), *map(link_bytes, model.links)]
+    at = random.randrange(len(records) + 1)
+    kind = random.randrange(6)
+    if kind < 3:
+        records.insert(at, faulty_record(model))
+    elif kind == 3:
+        records.insert(at, random.choice(records))
+    table = bytearray(b''.join(records))
+    if kind == 4:
+        del table[random.randrange(len(table)):]
+    elif kind == 5:
+        table[random.randrange(len(table))] = random.randrange(256)
+    return bytes(table)
+
+
+def faulty_tables(count):
+    """So many random tables with a fault, each with what is printed of it."""
+    tables = []
+    while len(tables) < count:
+        table = faulty_table(large() if random.random() < 0.1 else small())
+        number, place = first_fault(table)
+        if number:
+            tables.append((f'fault {len(tables)}', table, None, answer_line(number, place)))
+    return tables
+
+
 def check_example(name, text):
     """That what is printed of an example is what its .out has."""
-    with open(os.path.join(BASE, 'examples', name[:-len('.txt')] + '.out'), encoding='ascii') as out:
+    with open(os.path.join(BASE, 'examples', os.path.splitext(name)[0] + '.out'), encoding='ascii') as out:
         if out.read() != text:
             raise Wrong('its .out is otherwise')
 
 
+def example_files(ending):
+    for path in sorted(glob.glob(os.path.join(BASE, 'examples', '*' + ending))):
+        with open(path, 'rb') as file:
+            yield os.path.basename(path), file.read()
+
+
 def examples():
     """The models of the example texts, A to M of document 01 among them."""
-    for path in sorted(glob.glob(os.path.join(BASE, 'examples', '*.txt'))):
-        with open(path, 'rb') as text:
-            yield os.path.basename(path), read_text(text.read())
+    return ((name, read_text(text)) for name, text in example_files('.txt'))
+
+
+def faulty_examples():
+    """The examples that no text can say."""
+    return ((name, table, None, answer_line(*first_fault(table))) for name, table in example_files('.table'))
 
 
 def run(program, given):
@@ -192,11 +266,11 @@ def check(model, due, text):
     if not text.startswith(due) or not text.endswith('\n'):
         raise Wrong(f'due is {due!a}')
     lines = text[len(due):].splitlines()
-    if due == 'answer 13\n' and len(lines) == 1:
+    if due == answer_line(13) and len(lines) == 1:
         check_loop(model, *lines)
-    elif due == 'answer 15\n' and len(lines) == 2:
+    elif due == answer_line(15) and len(lines) == 2:
         check_blocked(model, *lines)
-    elif due in ('answer 13\n', 'answer 15\n') or lines:
+    elif due in (answer_line(13), answer_line(15)) or lines:
         raise Wrong(f'{len(lines)} lines follow what is due')
 
 
@@ -209,6 +283,7 @@ def main():
     models += [(f'small {n}', small()) for n in range(5000)]
     models += [(f'large {n}', large()) for n in range(200)]
     cases += [(name, table_bytes(model), model, None) for name, model in models]
+    cases += [*faulty_examples(), *faulty_tables(2000)]
     given = b''.join(struct.pack('<I', len(table)) + table for _, table, _, _ in cases)
     texts = run(program, given)
     if len(texts) != len(cases):
@@ -217,7 +292,7 @@ def main():
     for at, (name, _, model, due) in enumerate(cases):
         try:
             check(model, due or printed(*analyse(model)), texts[at])
-            if name.endswith('.txt'):
+            if name.endswith(('.txt', '.table')):
                 check_example(name, texts[at])
         except Wrong as why:
             sys.exit(f'table {at} ({name}): {why}; printed is {texts[at]!a}')

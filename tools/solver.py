@@ -133,14 +133,19 @@ def analyse(model):
     return 0, [(component[p], w[p], period[p], start[p]) for p in range(len(model.ports))], sizes
 
 
+def answer_line(number, place=0):
+    """The first line: every number but 0 is followed by its place, 0 too (change request F-1)."""
+    return f'answer {number} at {place}\n' if number else 'answer 0\n'
+
+
 def printed(number, ports, buffers):
-    """The printed form of document 01; of 13 and 15 only the number."""
+    """The printed form of document 01; of 13 and 15 only the first line."""
     def fraction(x):
         return f'{x.numerator}/{x.denominator}'
 
-    lines = [f'answer {number}']
+    lines = []
     for p, (component, weight, period, start) in enumerate(ports):
         lines.append(f'port {p} component {component} weight {weight} period {fraction(period)} start {fraction(start)}')
     for n, size in buffers:
         lines.append(f'buffer {n} size {size}')
-    return '\n'.join(lines) + '\n'
+    return answer_line(number) + ''.join(line + '\n' for line in lines)

@@ -3,6 +3,7 @@
 
     table_text.py encode [TEXT] > TABLE
     table_text.py decode [TABLE] > TEXT
+    table_text.py decode --at BYTE [TABLE]           the line, with its number, of the record that begins at that byte
 
     port 1/1                                         maximum rate: events per tick
     connection 0 1 ratio 1/1 ticks 3 events 0        from, to, ratio, constant delay, rate-dependent delay
@@ -20,6 +21,7 @@ from model import Link, Model, Port, table_bytes
 
 MOST_PORTS, MOST_LINKS, MOST_PART = 64, 256, 1_000
 MOST_TICKS, MOST_EVENTS = 10_000_000, 1_000
+USAGE = 'usage: table_text.py encode [TEXT] > TABLE, or table_text.py decode [--at BYTE] [TABLE] > TEXT'
 # More than any number of a table needs, and few enough for Python to read.
 MOST_DIGITS = 10
 
@@ -113,15 +115,25 @@ def read_text(text):
 
 
 def table_lines(table):
-    """The line of each record of a table, whatever its numbers; a fault carries the byte where its record begins."""
+    """Where each record of a table begins, and its line, whatever its numbers; a fault carries the byte where its record begins."""
     at = 0
     while at < len(table):
         length, kind = struct.unpack_from('<HH', table, at) if at + 4 <= len(table) else (0, 0)
         if (kind, length) not in RECORDS or at + 2 + length > len(table):
             raise Fault(f'byte {at}: no port, connection or buffer begins here')
         numbers, line = RECORDS[kind, length]
-        yield line.format(*struct.unpack_from(numbers, table, at + 4))
+        yield at, line.format(*struct.unpack_from(numbers, table, at + 4))
         at += 2 + length
+
+
+def line_at(table, place):
+    """The line of the record that begins at a place, with its number among the lines."""
+    for number, (at, line) in enumerate(table_lines(table), 1):
+        if at == place:
+            return f'line {number}: {line}'
+        if at > place:
+            break
+    raise Fault(f'byte {place}: no record begins here')
 
 
 def read(source):
@@ -142,12 +154,32 @@ def write(data):
         raise Fault(f'not written: {error.strerror}') from None
 
 
+def converted(command, place, data):
+    """What is written of the data; place is a byte, or None."""
+    if command == 'encode':
+        return table_bytes(read_text(data))
+    if place is None:
+        return ''.join(line for _, line in table_lines(data)).encode()
+    return line_at(data, place).encode()
+
+
+def arguments(words):
+    """The command, the byte behind --at, or None, and the file, or standard input."""
+    command, *rest = words or ['']
+    place = None
+    if command == 'decode' and rest[:1] == ['--at']:
+        if len(rest) < 2 or not re.fullmatch('[0-9]{1,10}', rest[1]):
+            raise Fault(USAGE)
+        place, rest = int(rest[1]), rest[2:]
+    if command not in ('encode', 'decode') or len(rest) > 1:
+        raise Fault(USAGE)
+    return command, place, rest[0] if rest else 0
+
+
 def main(words):
     try:
-        if len(words) not in (1, 2) or words[0] not in ('encode', 'decode'):
-            raise Fault('usage: table_text.py encode [TEXT] > TABLE, or table_text.py decode [TABLE] > TEXT')
-        data = read(words[1] if len(words) == 2 else 0)
-        write(table_bytes(read_text(data)) if words[0] == 'encode' else ''.join(table_lines(data)).encode())
+        command, place, source = arguments(words)
+        write(converted(command, place, read(source)))
     except Fault as fault:
         print(fault, file=sys.stderr)
         return 2

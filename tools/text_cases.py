@@ -119,7 +119,29 @@ FAULTY_TABLES = [
     (PORT, 'byte 0: no port, connection or buffer begins here'),
 ]
 
-USAGE = 'usage: table_text.py encode [TEXT] > TABLE, or table_text.py decode [TABLE] > TEXT'
+# Bytes of tables, and the line of the record that begins there.
+FAULT = ONE * 2 + link_bytes(Link(0, 1, ticks=3)) + link_bytes(Link(1, 0, ticks=10_000_001, events=-2)) + ONE
+PLACES = [
+    (FAULT, 0, b'line 1: port 1/1\n'),
+    (FAULT, 8, b'line 2: port 1/1\n'),
+    (FAULT, 16, b'line 3: connection 0 1 ratio 1/1 ticks 3 events 0\n'),
+    (FAULT, 36, b'line 4: connection 1 0 ratio 1/1 ticks 10000001 events -2\n'),
+    (FAULT, 56, b'line 5: port 1/1\n'),
+    (FAULT[:-1], 36, b'line 4: connection 1 0 ratio 1/1 ticks 10000001 events -2\n'),
+]
+
+FAULTY_PLACES = [
+    (FAULT, 1, 'byte 1: no record begins here'),
+    (FAULT, 37, 'byte 37: no record begins here'),
+    (FAULT, 63, 'byte 63: no record begins here'),
+    (FAULT, 64, 'byte 64: no record begins here'),
+    (FAULT, 9999999999, 'byte 9999999999: no record begins here'),
+    (b'', 0, 'byte 0: no record begins here'),
+    (FAULT[:-1], 56, 'byte 56: no port, connection or buffer begins here'),
+    (ONE + record(4, b'1234'), 8, 'byte 8: no port, connection or buffer begins here'),
+]
+
+USAGE = 'usage: table_text.py encode [TEXT] > TABLE, or table_text.py decode [--at BYTE] [TABLE] > TEXT'
 
 
 def run(words, **streams):
@@ -140,7 +162,12 @@ def cases():
             yield f'{word} {data!r}', run([word], input=data), expected(output, '')
         for data, message in faulty:
             yield f'{word} {data!r}', run([word], input=data), expected(b'', message)
-    for words in ([], ['code'], ['encode', 'a', 'b'], ['--help']):
+    for data, place, output in PLACES:
+        yield f'decode --at {place} {data!r}', run(['decode', '--at', str(place)], input=data), expected(output, '')
+    for data, place, message in FAULTY_PLACES:
+        yield f'decode --at {place} {data!r}', run(['decode', '--at', str(place)], input=data), expected(b'', message)
+    for words in ([], ['code'], ['encode', 'a', 'b'], ['--help'], ['decode', '--at'], ['decode', '--at', 'x'], ['decode', '--at', '-1'],
+                  ['decode', '--at', '0', 'a', 'b'], ['encode', '--at', '0']):
         yield ' '.join(words), run(words, input=PORT), expected(b'', USAGE)
     for word in ('encode', 'decode'):
         data = {'encode': PORT, 'decode': ONE}[word]

@@ -1,4 +1,4 @@
-/* Prints what the check says of the table on standard input: the number, and the bytes of its records. It is C99 and C++ alike. */
+/* Prints what the check says of the table on standard input: the number, its place, and the bytes of its records. It is C99 and C++ alike. */
 #include <stdio.h>
 
 #include "../../bindings/vundayre.h"
@@ -25,6 +25,6 @@ int main(void) {
         return 0;
     }
     r = vundayre_analyse(table, n, answer, sizeof answer);
-    printf(LANGUAGE ": answer %llu, %zu bytes\n", (unsigned long long)r.number, r.written);
+    printf(LANGUAGE ": answer %llu at %zu, %zu bytes\n", (unsigned long long)r.number, r.place, r.written);
     return 0;
 }

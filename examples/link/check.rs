@@ -1,4 +1,4 @@
-//! Prints what the check says of the table on standard input: the number, and the bytes of its records.
+//! Prints what the check says of the table on standard input: the number, its place, and the bytes of its records.
 use std::io::Read;
 
 #[path = "../../bindings/vundayre.rs"]
@@ -15,7 +15,7 @@ fn main() -> std::io::Result<()> {
         return Ok(());
     }
     let mut answer = [0; vundayre::ANSWER_BYTES];
-    let (number, records) = vundayre::analyse(&table, &mut answer);
-    println!("Rust: answer {number}, {} bytes", records.len());
+    let vundayre::Answer { number, place, records } = vundayre::analyse(&table, &mut answer);
+    println!("Rust: answer {number} at {place}, {} bytes", records.len());
     Ok(())
 }

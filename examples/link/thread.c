@@ -27,6 +27,7 @@ int main(void) {
         fprintf(stderr, "there is no thread with a stack of %d bytes here\n", VUNDAYRE_STACK_BYTES);
         return 2;
     }
-    printf("C, in a thread with a stack of %d bytes: answer %llu, %zu bytes\n", VUNDAYRE_STACK_BYTES, (unsigned long long)r.number, r.written);
+    printf("C, in a thread with a stack of %d bytes: answer %llu at %zu, %zu bytes\n", VUNDAYRE_STACK_BYTES, (unsigned long long)r.number,
+           r.place, r.written);
     return 0;
 }

@@ -1,16 +1,17 @@
 -- What each way through the analysis comes to.
 use Prim.Native.Nat.{ℕ, zero, suc, _+_, _*_, _≤_, _<_}
 use mathlib.Core.Path.{_≡_, refl, ap, _∙_}
-use mathlib.Core.Logic.{_≢_}
+use mathlib.Core.Logic.{_≢_, inl}
 use mathlib.Core.Bool.{cond}
 use mathlib.Core.List.{List, []}
 use native.Mathlib.Omega.{arith}
 use lib.Dec.{eqb}
-use native.Mathlib.Nat.{pos-of-ne-zero}
 use lib.ListN.{length, getD, set, take, drop}
+use borrow.Author.Tests.{lt-ltb, le-ltb}
 use lib.Seq.{drop-cons, getD-set-same, getD-set-other}
 use Rattle.specification.specs.Bytes.{Written, loopAnswer}
 use Rattle.table.specs.WellFormed.{WellFormed}
+use Rattle.table.specs.FaultLaws.{table-no-place}
 use Rattle.specification.specs.Reading.{readTable}
 use Rattle.specification.specs.Table.{Table, portCount, linkCount}
 use Rattle.order.specs.Order.{Sorted}
@@ -19,7 +20,7 @@ use Rattle.specification.specs.Ratios.{Overweight}
 use Rattle.weights.specs.Ratios.{LoopNumbers, numberOf, IsRatios}
 use Rattle.weights.specs.declared.ratios.Ratios.{Ratios}
 use Rattle.weights.specs.declared.ratios.Agreement.the-variants.{Agreeing, Disagreeing, OverLimit}
-use Rattle.specification.specs.Answers.{refused, disagreeing, overweight, blocked, consistent, loopNumbers, records, leastRoom}
+use Rattle.specification.specs.Answers.{refused, disagreeing, overweight, loopNumbers, leastRoom, answerPlace}
 use Rattle.demands.specs.Room.{fits-room}
 use Rattle.graph.specs.Arranged.{Labelled, mostMembers, linkOwners}
 use Rattle.analysis.specs.Decided.{Decided}
@@ -70,18 +71,19 @@ steps-numbers xs i (suc n) h room =
 
 pub decided-loop : {t : Table} {numbers before after : List ℕ} {steps written : ℕ} → LoopNumbers t numbers steps → 128 ≤ length numbers
     → Written (loopAnswer (take (2 * steps) numbers)) before after written
-    → Decided t before after (record { number = numberOf (Disagreeing steps); written = written })
+    → Decided t before after (record { number = numberOf (Disagreeing steps); place = 0; written = written })
 decided-loop {numbers = numbers} {steps = steps} l room w = record {
   answer = disagreeing (stepsFrom numbers 0 steps);
   right = l .loop;
   number-is = refl;
+  place-is = refl;
   records-are = rw (steps-numbers numbers 0 steps (λ j h. let e : 0 + 2 * j + 1 ≡ 2 * j + 1 = omega arith in rw e (l .directions j h)) (omega (arith, l .few))) w;
   fits = tt;
 }
 
 -- ---- number 14
-pub decided-over : {t : Table} (before : List ℕ) → Overweight t → Decided t before before (record { number = numberOf OverLimit; written = 0 })
-decided-over before o = record { answer = overweight; right = o; number-is = refl; records-are = written-none before; fits = tt }
+pub decided-over : {t : Table} (before : List ℕ) → Overweight t → Decided t before before (record { number = numberOf OverLimit; place = 0; written = 0 })
+decided-over before o = record { answer = overweight; right = o; number-is = refl; place-is = refl; records-are = written-none before; fits = tt }
 
 -- ---- the slices of a table with the room for its work
 pub table-slices : {t : Table} {labels weights members numbers₀ numbers new : List ℕ} {ends : List (List ℕ)} {most room : ℕ} (n m : ℕ)
@@ -107,7 +109,8 @@ table-slices {labels = labels} {numbers₀ = numbers₀} {new = new} {ends = end
 }
 
 -- ---- a byte string
-pub analysed-short : (s before : List ℕ) → length before < leastRoom → Analysed s before before (record { number = 1; written = 0 })
+pub analysed-short : (s before : List ℕ) → length before < leastRoom → Analysed s before before (record { number = 1; place = 0; written = 0 })
+unfolding answerPlace
 analysed-short s before h = record {
   answer = refused 1;
   right = record {
@@ -116,13 +119,15 @@ analysed-short s before h = record {
     right = λ k e. absurd (omega arith);
   };
   number-is = refl;
+  place-is = rw (lt-ltb (length before) leastRoom h);
   records-are = written-none before;
   fits = tt;
 }
 
-pub analysed-faulty : (s before : List ℕ) (n : ℕ) → n ≡ readTable s .number → n ≢ 0 → leastRoom ≤ length before
-    → Analysed s before before (record { number = n; written = 0 })
-analysed-faulty s before n e f h = record {
+pub analysed-faulty : (s before : List ℕ) (n place : ℕ) → n ≡ readTable s .number → place ≡ readTable s .place → n ≢ 0 → leastRoom ≤ length before
+    → Analysed s before before (record { number = n; place = place; written = 0 })
+unfolding answerPlace
+analysed-faulty s before n place e p f h = record {
   answer = refused n;
   right = record {
     short = λ k. absurd (omega arith);
@@ -130,14 +135,16 @@ analysed-faulty s before n e f h = record {
     right = λ k g. absurd (f (e ∙ g));
   };
   number-is = refl;
+  place-is = rw (le-ltb (length before) leastRoom h) p;
   records-are = written-none before;
   fits = tt;
 }
 
-pub analysed-decided : {s before after : List ℕ} {t : Table} {r : Outcome} → t ≡ readTable s .table → readTable s .number ≡ 0 → leastRoom ≤ length before
+pub analysed-decided : (s : List ℕ) {before after : List ℕ} {t : Table} {r : Outcome} → t ≡ readTable s .table → readTable s .number ≡ 0 → leastRoom ≤ length before
     → Decided t before after r
     → Analysed s before after r
-analysed-decided e z h d = record {
+unfolding answerPlace
+analysed-decided s {before} e z h d = record {
   answer = d .answer;
   right = record {
     short = λ k. absurd (omega arith);
@@ -145,6 +152,7 @@ analysed-decided e z h d = record {
     right = λ k g. rw (← e) (d .right);
   };
   number-is = d .number-is;
+  place-is = rw (le-ltb (length before) leastRoom h, table-no-place s (inl (omega (arith, z)))) (d .place-is);
   records-are = rw (← e) (d .records-are);
   fits = rw (← e) (d .fits);
 }

@@ -8,10 +8,11 @@ use Rattle.specification.specs.Answers.{Answer, number, records, Right}
 use Rattle.specification.specs.Analysed.{Fits}
 use Rattle.specification.specs.declared.Outcome.{Outcome}
 
--- a right answer to a table: its number is returned, its records stand at the front of the answer buffer, and the rest is unchanged
+-- a right answer to a table: its number is returned, with place 0 since it concerns no record, its records stand at the front of the answer buffer, and the rest is unchanged
 pub record Decided (t : Table) (before after : List ℕ) (r : Outcome) : Type 0 where
   pub answer : Answer
   pub right : Right t answer
   pub number-is : r .number ≡ number answer
+  pub place-is : r .place ≡ 0
   pub records-are : Written (records t answer) before after (r .written)
   pub fits : Fits t answer

@@ -5,15 +5,16 @@ use mathlib.Core.Logic.{_≢_, _⊎_, inl, inr}
 use mathlib.Core.List.{List, []}
 use native.Mathlib.Omega.{arith}
 use lib.ListN.{length, drop}
+use borrow.Author.Tests.{lt-ltb, le-ltb}
 use lib.Seq.{drop-at}
 use Rattle.specification.specs.Bytes.{Written}
 use Rattle.records.specs.WrittenLaws.{written-length}
-use Rattle.specification.specs.Reading.{readTable}
-use Rattle.table.specs.ReadingLaws.{fault-number}
+use Rattle.specification.specs.Reading.{FaultPlace, start, readTable}
+use Rattle.table.specs.FaultLaws.{fault-number, table-place, table-no-place}
 use Rattle.table.specs.WellFormed.{WellFormed}
 use Rattle.specification.specs.Table.{Table}
 use Rattle.specification.specs.Ratios.{Overweight}
-use Rattle.specification.specs.Answers.{Answer, refused, disagreeing, overweight, blocked, consistent, number, records, Right, leastRoom}
+use Rattle.specification.specs.Answers.{Answer, refused, disagreeing, overweight, blocked, consistent, number, records, Right, leastRoom, answerPlace}
 use Rattle.demands.specs.AnswerCases.{AnswerCase, short, faulty, formed, answer-case}
 use Rattle.specification.specs.Solutions.{Solution}
 use Rattle.demands.specs.Room.{fits-room}
@@ -50,6 +51,26 @@ module _ {s before after : List ℕ} {r : Outcome} (h : Analysed s before after 
   listed-number {x = overweight} (formed _ _ _ i) w = inr (inr (inl refl))
   listed-number {x = blocked floor block} (formed _ _ _ i) w = inr (inr (inr refl))
   listed-number {x = consistent timing} (formed _ _ _ i) w = inl refl
+
+  -- a right answer to a table that was read has none of the numbers of a record
+  other : (x : Answer) → Right t x → 2 ≤ number x → number x ≤ 11 → ⊥
+  other (refused n) i k m = i
+  other (disagreeing path) i k m = omega arith
+  other overweight i k m = omega arith
+  other (blocked floor block) i k m = omega arith
+  other (consistent timing) i k m = omega arith
+
+  place-in : {x : Answer} → Case x → 2 ≤ number x → number x ≤ 11 → FaultPlace s start (number x) (answerPlace s (length before))
+  unfolding answerPlace
+  place-in (short l) k m = absurd (omega arith)
+  place-in (faulty l f) k m = rw (le-ltb (length before) leastRoom l) (table-place s k m)
+  place-in {x} (formed l z g i) k m = absurd (other x i k m)
+
+  no-place-in : {x : Answer} → Case x → (number x < 2) ⊎ (11 < number x) → answerPlace s (length before) ≡ 0
+  unfolding answerPlace
+  no-place-in (short l) k = rw (lt-ltb (length before) leastRoom l)
+  no-place-in (faulty l f) k = rw (le-ltb (length before) leastRoom l) (table-no-place s k)
+  no-place-in (formed l z g i) k = rw (le-ltb (length before) leastRoom l) (table-no-place s (inl (omega (arith, z))))
 
   -- the other numbers have no records
   no-records : (x : Answer) → number x ≢ 0 → number x ≢ 13 → number x ≢ 15 → records t x ≡ []
@@ -164,11 +185,13 @@ demanded {s} {before} {after} {r} h =
       faulty = λ l f. n ∙ faulty-number h c l f;
       a-fault = λ l f. rw (n ∙ faulty-number h c l f) (fault-number s f);
       listed = λ g. rw n (listed-number h c g);
+      place = λ l m. rw (n, h .place-is) (place-in h c (omega (arith, n, l)) (omega (arith, n, m)));
+      no-place = λ k. h .place-is ∙ no-place-in h c (rw n at k);
       nothing = λ f g k. nothing-written h (no-records h (h .answer) (λ e. f (n ∙ e)) (λ e. g (n ∙ e)) (λ e. k (n ∙ e))) w;
       room = omega (arith, w .counted, small-records h c);
       same-length = written-length w (fit-records h c);
       rest = rest-kept h w;
-      one-number = λ after′ r′ h′. same-number h h′;
+      one-number = λ after′ r′ h′. (same-number h h′, h′ .place-is ∙ sym (h .place-is));
       one-answer = λ after′ r′ h′. same-bytes h h′;
       solved = λ e. solved-call h c (h .fits) w (sym n ∙ e);
       disagreeing = λ e. disagreeing-call h c w (sym n ∙ e);

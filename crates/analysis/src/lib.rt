@@ -1,4 +1,4 @@
-// The analysis: a table's bytes and an answer buffer to a number and the bytes written.
+// The analysis: a table's bytes and an answer buffer to a number, its place and the bytes written.
 ghost use Prim.Native.Nat.{_≤_};
 ghost use lib.ListN.{length, replicate};
 ghost use Rattle.specification.specs.Answers.{leastRoom};
@@ -31,6 +31,7 @@ pub fn analyse(s: &[u8], answer: &mut [u8]) -> Outcome
     if answer.len() < limits::LEAST_ROOM {
         return Outcome {
             number: 1,
+            place: 0,
             written: 0,
         };
     }
@@ -60,6 +61,7 @@ fn read_in(s: &[u8], ports: &mut [u32], links: &mut [u32], answer: &mut [u8]) ->
     if read.number != 0 {
         return Outcome {
             number: read.number,
+            place: read.place,
             written: 0,
         };
     }
@@ -86,9 +88,17 @@ fn decide(ports: &[u32], links: &[u32], answer: &mut [u8]) -> Outcome
         }
         Agreement::Disagreeing(steps) => {
             let written = write::write_loop(answer, &loop_numbers[..2 * steps]);
-            Outcome { number, written }
+            Outcome {
+                number,
+                place: 0,
+                written,
+            }
         }
-        Agreement::OverLimit => Outcome { number, written: 0 },
+        Agreement::OverLimit => Outcome {
+            number,
+            place: 0,
+            written: 0,
+        },
     }
 }
 

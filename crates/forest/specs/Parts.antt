@@ -1,6 +1,6 @@
 -- The greatest part of a table's ratios, ratios of 1 aside.
 use Prim.Native.Nat.{ℕ, zero, suc, _≤_, _<_, max}
-use mathlib.Core.Path.{_≡_, refl}
+use mathlib.Core.Path.{_≡_}
 use mathlib.Core.Logic.{_≢_, ⊎-elim}
 use mathlib.Core.Bool.{cond}
 use native.Mathlib.Nat.{eq-or-lt-of-le, le-of-suc-le-suc, not-suc-le-zero}
@@ -45,18 +45,10 @@ module _ (t : Table) where
     den-most = λ k i d. omega (arith, part-within (linkCount t) k (i .below), part-other k d);
   }
 
-  -- it is 0 exactly where every ratio is 1
+  -- where it is 0 every ratio is 1
   pub zero-ones : WellFormed t → greatestPart ≡ 0 → (k : ℕ) → IsLink t k → num t k ≡ den t k
   zero-ones formed none k i = one (ℕ-discrete (num t k) (den t k))
     where
       one : Dec (num t k ≡ den t k) → num t k ≡ den t k
       one (yes e) = e
       one (no d) = absurd (omega (arith, greatest-most .num-most k i d, formed .links k (i .below) .num .least))
-
-  first-ones : (n : ℕ) → ((k : ℕ) → k < n → num t k ≡ den t k) → greatestOf n ≡ 0
-  unfolding greatestOf
-  first-ones zero one = refl
-  first-ones (suc n) one = omega (arith, first-ones n (λ k h. one k (omega arith)), part-one n (one n (omega arith)))
-
-  pub ones-zero : ((k : ℕ) → IsLink t k → num t k ≡ den t k) → greatestPart ≡ 0
-  ones-zero one = first-ones (linkCount t) (λ k h. one k (record { below = h }))

@@ -1,7 +1,7 @@
 -- The slices of a table's components: the ports and connections of each stand together.
-use Prim.Native.Nat.{ℕ, _+_, _≤_}
+use Prim.Native.Nat.{ℕ, _+_}
 use mathlib.Core.Path.{_≡_}
-use mathlib.Core.List.{List, _++_}
+use mathlib.Core.List.{List}
 use lib.ListN.{length, take}
 use Rattle.table.specs.WellFormed.{WellFormed}
 use Rattle.specification.specs.Table.{Table, portCount, linkCount}

@@ -1,16 +1,14 @@
 -- The slices of each component are parts of those of all.
-use Prim.Native.Nat.{ℕ, suc, _+_, _-_, _*_, _≤_, _<_}
-use mathlib.Core.Path.{_≡_, refl}
+use Prim.Native.Nat.{ℕ, suc, _+_, _-_, _≤_, _<_}
+use mathlib.Core.Path.{_≡_}
 use mathlib.Core.Bool.{Bool, true, false}
-use mathlib.Core.List.{List, _++_, append-assoc}
+use mathlib.Core.List.{List}
 use native.Mathlib.Omega.{arith}
-use lib.ListN.{length, getD, take, drop, length-append}
-use lib.Seq.{take-at, drop-at}
+use lib.ListN.{length, getD, take, drop}
 use Rattle.specification.specs.Table.{Table, portCount, linkCount, link, IsPort}
 use Rattle.records.specs.WrittenLaws.{written-within}
-use Rattle.order.specs.Order.{keyed, ordered, Sortable, Sorted}
-use Rattle.order.specs.OrderLaws.{ordered-next, ordered-split, ordered-part, ordered-more, ordered-below, few-ordered, few-keyed, few-most, most-keyed}
-use Rattle.numbers.specs.Taken.{member-at}
+use Rattle.order.specs.Order.{ordered, Sortable}
+use Rattle.order.specs.OrderLaws.{ordered-next, ordered-part, few-ordered, few-keyed, few-most, most-keyed}
 use Rattle.demands.specs.ConstraintLaws.{names-component}
 use Rattle.table.specs.WellFormed.{WellFormed}
 use Rattle.ways.specs.Labels.{Components}

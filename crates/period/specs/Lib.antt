@@ -12,5 +12,4 @@ pub mod Greatest
 pub mod Sums
 pub mod Search
 pub mod Try
-pub mod SearchLaws
 pub mod Idle

@@ -40,10 +40,6 @@ module _ (g : Graph) (path : List ℕ) where
   losses-at : (a b : ℕ) → sum (loss g a b) path ≡ E⁻ * b + D⁻ * a
   losses-at a b = sum-linear (g .E⁻) (g .D⁻) b a path
 
-  -- where a path does not gain, a/b is at least E / −D
-  pub falling-below : (a b : ℕ) → sum (gain g a b) path ≤ sum (loss g a b) path → (E⁺ - E⁻) * b ≤ a * (D⁻ - D⁺)
-  falling-below a b h = omega (arith, gains-at a b, losses-at a b, mul-sub b E⁺ E⁻, mul-sub a D⁻ D⁺)
-
   module _ (a b : ℕ) (positive : sum (loss g a b) path < sum (gain g a b) path) where
     pub falling-gains : D⁺ < D⁻ → E⁻ < E⁺
     falling-gains d = lt-of-mul-lt-mul-right b (omega (arith, gains-at a b, losses-at a b, mul-le-mul-right a d))
@@ -118,12 +114,6 @@ module _ {g : Graph} {a b a′ b′ : ℕ} where
         ap (λ (x : ℕ). x * D⁺ g path) same,
         ap (λ (x : ℕ). x * D⁻ g path) same,
       )));
-    }
-
-    pub rate-scaled : {p : ℕ} → RateLimit g p a b → RateLimit g p a′ b′
-    rate-scaled {p} l = record {
-      a-port = l .a-port;
-      exact = eq-of-mul-eq-mul-right b some _ _ (omega (arith, ap (λ (x : ℕ). x * b′) (l .exact), ap (λ (x : ℕ). x * g .limitDen p) same));
     }
 
 module _ {g : Graph} {a b : ℕ} where

@@ -1,4 +1,4 @@
--- Models A, F and I of document 01 print as it says.
+-- Models A, F and I of document 01 print as it says, with the place of change request F-1, and so does its fault.
 use Prim.Native.Nat.{ℕ}
 use mathlib.Core.Path.{_≡_, refl}
 use mathlib.Core.Bool.{true, false}
@@ -9,8 +9,8 @@ use Rattle.numbers.specs.Gcd.{gcd}
 use Rattle.fraction.specs.Lowest.{lowestTerms}
 use Rattle.specification.specs.Table.{Table, noPort, noLink}
 use Rattle.specification.specs.declared.Link.{Link}
-use Rattle.specification.specs.Answers.{Timing, cycle, disagreeing, blocked, consistent}
-use Rattle.text.specs.Lines.{decimal, decimalIn, fraction, signWord, field, fractionField, answerLine, portText, portLine, bufferLine, stepText, connectionText, itemsLine}
+use Rattle.specification.specs.Answers.{Timing, cycle, refused, disagreeing, blocked, consistent}
+use Rattle.text.specs.Lines.{decimal, decimalIn, fraction, signWord, field, fractionField, placeText, answerLine, portText, portLine, bufferLine, stepText, connectionText, itemsLine}
 use Rattle.report.specs.AnswerText.{stepsText, connectionsText, portsText, buffersText, textOf}
 
 -- ---- A
@@ -53,24 +53,32 @@ portOne =
 abbrev bufferTwo : List ℕ
 bufferTwo = 98 ∷ 117 ∷ 102 ∷ 102 ∷ 101 ∷ 114 ∷ 32 ∷ 50 ∷ 32 ∷ 115 ∷ 105 ∷ 122 ∷ 101 ∷ 32 ∷ 53 ∷ 10 ∷ []
 
-pub model-A : textOf tableA (consistent timingA) ≡ firstLine ++ portZero ++ portOne ++ bufferTwo
-unfolding portsText buffersText answerLine portLine portText bufferLine field fractionField fraction decimal decimalIn lowestTerms gcd
+pub model-A : textOf 0 tableA (consistent timingA) ≡ firstLine ++ portZero ++ portOne ++ bufferTwo
+unfolding portsText buffersText answerLine placeText portLine portText bufferLine field fractionField fraction decimal decimalIn lowestTerms gcd
 model-A = refl
 
--- ---- F: "answer 15", "floor cycle 0", "block 1"
+-- ---- F: "answer 15 at 0", "floor cycle 0", "block 1"
 abbrev linesF : List ℕ
 linesF =
-    97 ∷ 110 ∷ 115 ∷ 119 ∷ 101 ∷ 114 ∷ 32 ∷ 49 ∷ 53 ∷ 10 ∷
+    97 ∷ 110 ∷ 115 ∷ 119 ∷ 101 ∷ 114 ∷ 32 ∷ 49 ∷ 53 ∷ 32 ∷ 97 ∷ 116 ∷ 32 ∷ 48 ∷ 10 ∷
     102 ∷ 108 ∷ 111 ∷ 111 ∷ 114 ∷ 32 ∷ 99 ∷ 121 ∷ 99 ∷ 108 ∷ 101 ∷ 32 ∷ 48 ∷ 10 ∷ 98 ∷ 108 ∷ 111 ∷ 99 ∷ 107 ∷ 32 ∷ 49 ∷ 10 ∷ []
 
-pub model-F : (t : Table) → textOf t (blocked (cycle (0 ∷ [])) (1 ∷ [])) ≡ linesF
-unfolding connectionsText answerLine connectionText itemsLine field decimal decimalIn
+pub model-F : (t : Table) → textOf 0 t (blocked (cycle (0 ∷ [])) (1 ∷ [])) ≡ linesF
+unfolding connectionsText answerLine placeText connectionText itemsLine field decimal decimalIn
 model-F t = refl
 
--- ---- I: "answer 13", "loop +0 -1"
+-- ---- I: "answer 13 at 0", "loop +0 -1"
 abbrev linesI : List ℕ
-linesI = 97 ∷ 110 ∷ 115 ∷ 119 ∷ 101 ∷ 114 ∷ 32 ∷ 49 ∷ 51 ∷ 10 ∷ 108 ∷ 111 ∷ 111 ∷ 112 ∷ 32 ∷ 43 ∷ 48 ∷ 32 ∷ 45 ∷ 49 ∷ 10 ∷ []
+linesI = 97 ∷ 110 ∷ 115 ∷ 119 ∷ 101 ∷ 114 ∷ 32 ∷ 49 ∷ 51 ∷ 32 ∷ 97 ∷ 116 ∷ 32 ∷ 48 ∷ 10 ∷ 108 ∷ 111 ∷ 111 ∷ 112 ∷ 32 ∷ 43 ∷ 48 ∷ 32 ∷ 45 ∷ 49 ∷ 10 ∷ []
 
-pub model-I : (t : Table) → textOf t (disagreeing (record { number = 0; against = false } ∷ record { number = 1; against = true } ∷ [])) ≡ linesI
-unfolding stepsText answerLine stepText signWord itemsLine field decimal decimalIn
+pub model-I : (t : Table) → textOf 0 t (disagreeing (record { number = 0; against = false } ∷ record { number = 1; against = true } ∷ [])) ≡ linesI
+unfolding stepsText answerLine placeText stepText signWord itemsLine field decimal decimalIn
 model-I t = refl
+
+-- ---- a fault: "answer 11 at 36"
+abbrev lineFault : List ℕ
+lineFault = 97 ∷ 110 ∷ 115 ∷ 119 ∷ 101 ∷ 114 ∷ 32 ∷ 49 ∷ 49 ∷ 32 ∷ 97 ∷ 116 ∷ 32 ∷ 51 ∷ 54 ∷ 10 ∷ []
+
+pub fault : (t : Table) → textOf 36 t (refused 11) ≡ lineFault
+unfolding answerLine placeText field decimal decimalIn
+fault t = refl

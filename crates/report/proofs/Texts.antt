@@ -15,12 +15,12 @@ use Rattle.report.specs.Report.{mostBytes, unreadLine, longLine, Printed
 
 -- what an analysis wrote into the least answer buffer, printed
 pub printed-text : {s before after text text′ : List ℕ} {o : Outcome} {r : ℕ} → Analysed s before after o → length before ≡ leastRoom
-    → Written (printed (o .number) (take (o .written) after)) text text′ r
+    → Written (printed (o .number) (o .place) (take (o .written) after)) text text′ r
     → r ≤ length text′
     → PrintedText s text text′ r
 printed-text {s} h room w l = record {
   text = _;
-  printed = record { answer = h .answer; right = rw room at (h .right); is = printed-analysed h };
+  printed = record { answer = h .answer; right = rw room at (h .right); is = rw room at (printed-analysed h) };
   written = w;
   within = l;
 }

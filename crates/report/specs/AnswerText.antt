@@ -1,4 +1,4 @@
--- The printed form of document 01, from the answer: the number, then the records' lines.
+-- The printed form of document 01, from the answer: the number, its place (change request F-1), then the records' lines.
 use Prim.Native.Nat.{ℕ, zero, suc}
 use mathlib.Core.Bool.{cond}
 use mathlib.Core.List.{List, [], _∷_, _++_}
@@ -40,5 +40,5 @@ linesOf t (blocked floor block) = floorText floor ++ itemsLine blockWord (connec
 linesOf t (consistent r) = portsText r (portCount t) ++ buffersText t r (linkCount t)
 
 -- the whole text
-abbrev pub textOf : Table → Answer → List ℕ
-textOf t x = answerLine (number x) ++ linesOf t x
+abbrev pub textOf : (place : ℕ) → Table → Answer → List ℕ
+textOf place t x = answerLine (number x) place ++ linesOf t x

@@ -36,6 +36,7 @@ use Rattle.specification.specs.Answers.{
   Right,
   leastRoom,
   AnswerOf,
+  answerPlace,
 }
 use Rattle.demands.specs.AnswerCases.{AnswerCase, short, faulty, formed as right-answer, answer-case}
 use Rattle.demands.specs.Room.{fits-room}
@@ -48,9 +49,9 @@ use Rattle.report.specs.AnswerText.{floorText, portsText, buffersText, l
 use Rattle.report.specs.RecordText.{PortFields, BufferFields, SmallNumbers, prints-port, prints-buffer, prints-floor, prints-loop, prints-cycle}
 
 -- the records print, however many they are
-pub record PrintsAs (s : List ℕ) (place : ℕ) (lines : List ℕ) : Type 0 where
+pub record PrintsAs (s : List ℕ) (first : ℕ) (lines : List ℕ) : Type 0 where
   pub many : ℕ
-  pub prints : Prints s place many lines
+  pub prints : Prints s first many lines
 
 -- ---- the ports and buffers of a consistent model
 prints-ports : (r : Timing) (n : ℕ)
@@ -76,19 +77,19 @@ port-fields {t} {r} fits p h =
       over = r .over p;
     }
 
-prints-buffer-if : (b : Bool) {k size place : ℕ} → (b ≡ true → BufferFields k size)
-    → PrintsAs (cond b (bufferAnswer k size) []) place (cond b (bufferLine k size) [])
-prints-buffer-if true {place = place} fields = record { many = 1; prints = prints-buffer (fields refl) place }
+prints-buffer-if : (b : Bool) {k size first : ℕ} → (b ≡ true → BufferFields k size)
+    → PrintsAs (cond b (bufferAnswer k size) []) first (cond b (bufferLine k size) [])
+prints-buffer-if true {first = first} fields = record { many = 1; prints = prints-buffer (fields refl) first }
 prints-buffer-if false fields = record { many = 0; prints = prints-none }
 
-prints-buffers : (t : Table) (r : Timing) (place n : ℕ)
+prints-buffers : (t : Table) (r : Timing) (first n : ℕ)
     → ((k : ℕ) → k < n → link t k .buffer ≡ true → BufferFields k (r .size k))
-    → PrintsAs (bufferRecords t r n) place (buffersText t r n)
+    → PrintsAs (bufferRecords t r n) first (buffersText t r n)
 unfolding bufferRecords buffersText
-prints-buffers t r place zero fields = record { many = 0; prints = prints-none }
-prints-buffers t r place (suc n) fields =
-    let before = prints-buffers t r place n (λ k h. fields k (omega arith)) in
-    let last = prints-buffer-if (link t n .buffer) {place = place + before .many} (fields n (omega arith)) in
+prints-buffers t r first zero fields = record { many = 0; prints = prints-none }
+prints-buffers t r first (suc n) fields =
+    let before = prints-buffers t r first n (λ k h. fields k (omega arith)) in
+    let last = prints-buffer-if (link t n .buffer) {first = first + before .many} (fields n (omega arith)) in
     record { many = before .many + last .many; prints = before .prints ⨾ last .prints }
 
 buffer-fields : {t : Table} {r : Timing} → WellFormed t → FieldsFit t r
@@ -141,27 +142,27 @@ module _ {t : Table} (formed : WellFormed t) where
       let buffers = prints-buffers t r (0 + portCount t) (linkCount t) (buffer-fields formed fits) in
       record { many = portCount t + buffers .many; prints = ports ⨾ buffers .prints }
 
-pub printed-answer : {t : Table} (x : Answer) → WellFormed t → Right t x → Fits t x → printed (number x) (records t x) ≡ textOf t x
+pub printed-answer : (place : ℕ) {t : Table} (x : Answer) → WellFormed t → Right t x → Fits t x → printed (number x) place (records t x) ≡ textOf place t x
 unfolding printed
-printed-answer x formed right fits = rw (prints-all (prints-answer formed x right fits .prints))
+printed-answer place x formed right fits = rw (prints-all (prints-answer formed x right fits .prints))
 
 -- a refusal has no records
-pub printed-refused : (t : Table) (n : ℕ) → printed n (records t (refused n)) ≡ textOf t (refused n)
+pub printed-refused : (place : ℕ) (t : Table) (n : ℕ) → printed n place (records t (refused n)) ≡ textOf place t (refused n)
 unfolding printed
-printed-refused t n = rw (prints-all (prints-none {number = 0}))
+printed-refused place t n = rw (prints-all (prints-none {number = 0}))
 
 -- ---- every answer to a byte string
-pub printed-of : {s : List ℕ} {room : ℕ} {x : Answer} → AnswerOf s room x → Fits (readTable s .table) x
-    → printed (number x) (records (readTable s .table) x) ≡ textOf (readTable s .table) x
-printed-of {s} {room} h fits = by (answer-case h) fits
+pub printed-of : (place : ℕ) {s : List ℕ} {room : ℕ} {x : Answer} → AnswerOf s room x → Fits (readTable s .table) x
+    → printed (number x) place (records (readTable s .table) x) ≡ textOf place (readTable s .table) x
+printed-of place {s} {room} h fits = by (answer-case h) fits
   where
     by : {y : Answer} → AnswerCase s room y → Fits (readTable s .table) y
-        → printed (number y) (records (readTable s .table) y) ≡ textOf (readTable s .table) y
-    by (short l) f = printed-refused (readTable s .table) 1
-    by (faulty l e) f = printed-refused (readTable s .table) (readTable s .number)
-    by {y} (right-answer l e g i) f = printed-answer y g i f
+        → printed (number y) place (records (readTable s .table) y) ≡ textOf place (readTable s .table) y
+    by (short l) f = printed-refused place (readTable s .table) 1
+    by (faulty l e) f = printed-refused place (readTable s .table) (readTable s .number)
+    by {y} (right-answer l e g i) f = printed-answer place y g i f
 
 -- what an analysis has written prints as the text of its answer
 pub printed-analysed : {s before after : List ℕ} {r : Outcome} (h : Analysed s before after r)
-    → printed (r .number) (take (r .written) after) ≡ textOf (readTable s .table) (h .answer)
-printed-analysed h = rw (h .number-is, written-front (h .records-are)) (printed-of (h .right) (h .fits))
+    → printed (r .number) (r .place) (take (r .written) after) ≡ textOf (answerPlace s (length before)) (readTable s .table) (h .answer)
+printed-analysed h = rw (h .number-is, h .place-is, written-front (h .records-are)) (printed-of _ (h .right) (h .fits))

@@ -6,7 +6,7 @@ use mathlib.Core.List.{List, [], _∷_}
 use lib.ListN.{length}
 use Rattle.specification.specs.Bytes.{Written}
 use Rattle.specification.specs.Reading.{readTable}
-use Rattle.specification.specs.Answers.{Answer, leastRoom, AnswerOf}
+use Rattle.specification.specs.Answers.{Answer, leastRoom, AnswerOf, answerPlace}
 use Rattle.report.specs.AnswerText.{textOf}
 
 -- the most bytes that are analysed
@@ -15,7 +15,7 @@ mostBytes = 65536
 
 -- the room for the text of every answer
 abbrev pub textRoom : ℕ
-textRoom = 61468
+textRoom = 61492
 
 -- "answer unread"
 abbrev pub unreadLine : List ℕ
@@ -25,11 +25,11 @@ unreadLine = 97 ∷ 110 ∷ 115 ∷ 119 ∷ 101 ∷ 114 ∷ 32 ∷ 117 ∷ 110 �
 abbrev pub longLine : List ℕ
 longLine = 97 ∷ 110 ∷ 115 ∷ 119 ∷ 101 ∷ 114 ∷ 32 ∷ 108 ∷ 111 ∷ 110 ∷ 103 ∷ 10 ∷ []
 
--- the printed form of a right answer to the input
+-- the printed form of a right answer to the input, with its place
 pub record PrintedAnswer (s text : List ℕ) : Type 0 where
   pub answer : Answer
   pub right : AnswerOf s leastRoom answer
-  pub is : text ≡ textOf (readTable s .table) answer
+  pub is : text ≡ textOf (answerPlace s leastRoom) (readTable s .table) answer
 
 pub record PrintedText (s before after : List ℕ) (r : ℕ) : Type 0 where
   pub text : List ℕ

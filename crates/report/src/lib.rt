@@ -39,7 +39,7 @@ fn print_answer(s: &[u8], text: &mut [u8]) -> usize
     let mut answer = answer_room();
     let r = analysis::analyse(s, &mut answer);
     let written = r.written;
-    print::print(r.number, &answer[..written], text)
+    print::print(r.number, r.place, &answer[..written], text)
 }
 
 fn answer_room() -> [u8; limits::LEAST_ROOM]

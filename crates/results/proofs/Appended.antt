@@ -1,5 +1,5 @@
 -- Records written one behind another, each into the part of the answer buffer that begins at its place.
-use Prim.Native.Nat.{ℕ, _+_, _*_, _-_, _≤_, _<_}
+use Prim.Native.Nat.{ℕ, _+_, _*_, _≤_, _<_}
 use mathlib.Core.Path.{_≡_, refl}
 use mathlib.Core.List.{List, [], _++_}
 use native.Mathlib.Nat.{mul-le-mul-left}

@@ -6,7 +6,7 @@ use lib.ListN.{length}
 use Rattle.specification.specs.Table.{Table, IsPort, IsBuffer}
 use Rattle.specification.specs.Reading.{readTable}
 use Rattle.specification.specs.Bytes.{Written}
-use Rattle.specification.specs.Answers.{Timing, Answer, refused, disagreeing, overweight, blocked, consistent, number, records, AnswerOf}
+use Rattle.specification.specs.Answers.{Timing, Answer, refused, disagreeing, overweight, blocked, consistent, number, records, AnswerOf, answerPlace}
 use Rattle.specification.specs.declared.Outcome.{Outcome}
 
 -- each number that is returned of a consistent model fits its field
@@ -25,10 +25,11 @@ Fits t overweight = Unit {0}
 Fits t (blocked floor block) = Unit {0}
 Fits t (consistent r) = FieldsFit t r
 
--- a right answer: its number is returned, its records stand at the front of the answer buffer, and the rest is unchanged
+-- a right answer: its number is returned with its place, its records stand at the front of the answer buffer, and the rest is unchanged
 pub record Analysed (s before after : List ℕ) (r : Outcome) : Type 0 where
   pub answer : Answer
   pub right : AnswerOf s (length before) answer
   pub number-is : r .number ≡ number answer
+  pub place-is : r .place ≡ answerPlace s (length before)
   pub records-are : Written (records (readTable s .table) answer) before after (r .written)
   pub fits : Fits (readTable s .table) answer

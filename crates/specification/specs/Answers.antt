@@ -4,6 +4,7 @@ use mathlib.Core.Path.{_≡_}
 use mathlib.Core.Logic.{_≢_}
 use mathlib.Core.Bool.{cond}
 use mathlib.Core.List.{List, [], _∷_, _++_}
+use lib.Dec.{ltb}
 use Rattle.numbers.specs.Rationals.{Rational, share}
 use Rattle.specification.specs.Table.{Table, portCount, linkCount, mostPorts, mostLinks, link, IsPort, IsBuffer, from, to, ε⁺, ε⁻}
 use Rattle.specification.specs.Reading.{readTable}
@@ -130,3 +131,7 @@ pub record AnswerOf (s : List ℕ) (room : ℕ) (x : Answer) : Type 0 where
   pub short : room < leastRoom → x ≡ refused 1
   pub faulty : leastRoom ≤ room → readTable s .number ≢ 0 → x ≡ refused (readTable s .number)
   pub right : leastRoom ≤ room → readTable s .number ≡ 0 → Right (readTable s .table) x
+
+-- the place that is returned with the number: of 1 it is 0, as of all that concern no record
+unfoldable pub answerPlace : List ℕ → (room : ℕ) → ℕ
+answerPlace s room = cond (ltb room leastRoom) 0 (readTable s .place)

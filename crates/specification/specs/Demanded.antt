@@ -5,7 +5,7 @@ use mathlib.Core.Logic.{_≢_, _⊎_}
 use mathlib.Core.List.{List, _++_}
 use lib.ListN.{length, drop}
 use Rattle.specification.specs.Table.{Table}
-use Rattle.specification.specs.Reading.{readTable}
+use Rattle.specification.specs.Reading.{FaultPlace, start, readTable}
 use Rattle.specification.specs.Ratios.{Step, DisagreeingLoop, Overweight}
 use Rattle.specification.specs.Bytes.{Written, loopAnswer, cycleAnswer}
 use Rattle.specification.specs.Answers.{Timing, Floor, consistent, records, loopNumbers, floorRecord, NoPeriod, leastRoom}
@@ -60,13 +60,16 @@ pub record Demanded (s before after : List ℕ) (r : Outcome) : Type 0 where
   pub faulty : leastRoom ≤ length before → readTable s .number ≢ 0 → r .number ≡ readTable s .number
   pub a-fault : leastRoom ≤ length before → readTable s .number ≢ 0 → TableFault (r .number)
   pub listed : WellFormedCall s before → (r .number ≡ 0) ⊎ ((r .number ≡ 13) ⊎ ((r .number ≡ 14) ⊎ (r .number ≡ 15)))
+  -- the place: 2 to 11 have that of the first faulty record, every other number has 0
+  pub place : 2 ≤ r .number → r .number ≤ 11 → FaultPlace s start (r .number) (r .place)
+  pub no-place : (r .number < 2) ⊎ (11 < r .number) → r .place ≡ 0
   -- 1 to 12 and 14 write nothing; other bytes than the written ones are unchanged
   pub nothing : r .number ≢ 0 → r .number ≢ 13 → r .number ≢ 15 → NothingWritten before after r
   pub room : r .written ≤ leastRoom
   pub same-length : length after ≡ length before
   pub rest : drop (r .written) after ≡ drop (r .written) before
   -- nothing is left to the builder but which loop, floor or block is shown
-  pub one-number : (after′ : List ℕ) (r′ : Outcome) → Analysed s before after′ r′ → r′ .number ≡ r .number
+  pub one-number : (after′ : List ℕ) (r′ : Outcome) → Analysed s before after′ r′ → (r′ .number ≡ r .number) × (r′ .place ≡ r .place)
   pub one-answer : (after′ : List ℕ) (r′ : Outcome) → Analysed s before after′ r′ → r .number ≢ 13 → r .number ≢ 15
       → (r′ .written ≡ r .written) × (after′ ≡ after)
   -- demands 2 and 3: each number says whether a solution exists, 14 aside

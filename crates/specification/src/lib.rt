@@ -34,17 +34,19 @@ pub struct Before {
     pub port_may_come: bool,
 }
 
-// The record at a place, with the place behind it.
+// The record at a place, with the place behind it; a refusal with its number and the place where the record begins.
 pub enum Read {
     PortRecord(Port, usize),
     LinkRecord(Link, usize),
-    Refused(u64),
+    Refused(u64, usize),
     End,
 }
 
-// What a call of the analysis returns: the number, and how many bytes of the answer buffer were written.
+// What a call of the analysis returns: the number, the byte at which the faulty record begins, 0 where the number concerns no record, and
+// how many bytes of the answer buffer were written.
 #[repr(C)]
 pub struct Outcome {
     pub number: u64,
+    pub place: usize,
     pub written: usize,
 }

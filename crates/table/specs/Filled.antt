@@ -34,6 +34,7 @@ pub record Room (bytes : ℕ) (b : Before) (ports links : ℕ) : Type 0 where
 -- the numbers of what was read stand behind what stood before; the rest of the slices is as it was
 pub record Filled (b : Before) (r : Reading) (ports links ports′ links′ : List ℕ) (c : Counts) : Type 0 where
   pub number : c .number ≡ r .number
+  pub place : c .place ≡ r .place
   pub port-count : c .«port_count» ≡ b .ports + length (r .table .ports)
   pub link-count : c .«link_count» ≡ b .links + length (r .table .links)
   pub port-room : 2 * c .«port_count» ≤ length ports

@@ -4,5 +4,6 @@ pub mod RecordLaws
 pub mod Slices
 pub mod SliceLaws
 pub mod ReadingLaws
+pub mod FaultLaws
 pub mod Filled
 pub mod FilledLaws

@@ -1,19 +1,17 @@
 -- What is known of a table that was read.
 use Prim.Native.Nat.{ℕ, zero, suc, _+_, _≤_, _<_}
 use mathlib.Core.Path.{_≡_, refl}
-use mathlib.Core.Logic.{_≢_}
 use mathlib.Core.Bool.{Bool, true, false, _&&_, cond}
 use mathlib.Core.List.{List, [], _∷_}
 use native.Mathlib.Omega.{arith}
 use native.Mathlib.Nat.{pos-of-ne-zero}
 use lib.ListN.{length, getD}
 use lib.Dec.{eqb}
-use borrow.Author.Tests.{eqb-true, eqb-false}
+use borrow.Author.Tests.{eqb-false}
 use Rattle.specification.specs.Table.{noPort, noLink, mostPorts, mostLinks}
 use Rattle.table.specs.WellFormed.{PortFits, LinkFits, WellFormed}
 use Rattle.specification.specs.Reading.{recordAt, Reading, withPort, withLink, after, readFrom, readOn, start, readTable}
-use Rattle.table.specs.RecordLaws.{FaultNumber, Accepted, accepted}
-use Rattle.specification.specs.Demanded.{TableFault}
+use Rattle.table.specs.RecordLaws.{Accepted, accepted}
 use Rattle.specification.specs.declared.Port.{Port}
 use Rattle.specification.specs.declared.Link.{Link}
 use Rattle.specification.specs.declared.Before.{Before}
@@ -26,7 +24,7 @@ after-same : (s : List ℕ) (at : ℕ) (b : Before) (rest rest' : ℕ → Before
     → after rest b r ≡ after rest' b r
 after-same s at b rest rest' (PortRecord p next) a same = rw (same next (withPort b) (omega (arith, a .onward)) (a .onward .within))
 after-same s at b rest rest' (LinkRecord l next) a same = rw (same next (withLink b) (omega (arith, a .onward)) (a .onward .within))
-after-same s at b rest rest' (Refused number) a same = refl
+after-same s at b rest rest' (Refused number place) a same = refl
 after-same s at b rest rest' End a same = refl
 
 read-same : (s : List ℕ) (m n at : ℕ) (b : Before) → at ≤ length s → length s < m + at → length s < n + at
@@ -101,7 +99,7 @@ after-fits s at b rest (LinkRecord l next) a each =
       ports = f .ports;
       links = all-cons (LinkFits (b .named + length ps)) noLink l ls (fits-more (b .named + length ps) (a .fits) (omega arith)) (f .links);
     }
-after-fits s at b rest (Refused number) a each = nothing-fits b
+after-fits s at b rest (Refused number place) a each = nothing-fits b
 after-fits s at b rest End a each = nothing-fits b
 
 read-fits : (n : ℕ) (s : List ℕ) (at : ℕ) (b : Before) → Fitting b (readFrom n s at b .table .ports) (readFrom n s at b .table .links)
@@ -135,32 +133,3 @@ well-formed s e h =
       ports = f .ports;
       links = λ k b. fits-more (length (r .table .ports)) (f .links k b) (omega arith);
     })
-
--- ---- the number of a fault
-after-number : (s : List ℕ) (at : ℕ) (b : Before) (rest : ℕ → Before → Reading) (r : Read) → Accepted s at b r
-    → ((next : ℕ) (c : Before) → rest next c .number ≢ 0 → FaultNumber (rest next c .number))
-    → after rest b r .number ≢ 0
-    → FaultNumber (after rest b r .number)
-after-number s at b rest (PortRecord p next) a each f = each next (withPort b) f
-after-number s at b rest (LinkRecord l next) a each f = each next (withLink b) f
-after-number s at b rest (Refused number) a each f = a
-after-number s at b rest End a each f = absurd (f refl)
-
-from-number : (n : ℕ) (s : List ℕ) (at : ℕ) (b : Before) → readFrom n s at b .number ≢ 0 → FaultNumber (readFrom n s at b .number)
-unfolding readFrom
-from-number zero s at b f = omega arith
-from-number (suc n) s at b f = after-number s at b (readFrom n s) (recordAt s at b) (accepted s at b) (λ next c. from-number n s next c) f
-
-pub fault-number : (s : List ℕ) → readTable s .number ≢ 0 → TableFault (readTable s .number)
-unfolding readTable readOn
-fault-number s f = decided (eqb (r .number) 0) (eqb (length (r .table .ports)) 0) refl f
-  where
-    r : Reading
-    r = readFrom (length s + 1) s 0 start
-
-    decided : (a b : Bool) → eqb (r .number) 0 ≡ a → cond (a && b) 12 (r .number) ≢ 0 → TableFault (cond (a && b) 12 (r .number))
-    decided true true e g = record { least = omega arith; most = omega arith }
-    decided true false e g = absurd (g (eqb-true (r .number) 0 e))
-    decided false b e g =
-        let number = from-number (length s + 1) s 0 start g in
-        record { least = number .least; most = omega (arith, number .most) }

@@ -18,6 +18,7 @@ use Rattle.specification.specs.Reading.{
   partsFaulty,
   endsFaulty,
   amountFaulty,
+  delaysFaulty,
   ticksAt,
   eventsAt,
   portOf,
@@ -37,34 +38,38 @@ use Rattle.specification.specs.declared.Before.{Before}
 use Rattle.specification.specs.declared.Read.{Read}
 use Rattle.specification.specs.declared.Read.the-variants.{PortRecord, LinkRecord, Refused, End}
 
--- the place behind a record of so many bytes or more is within the table
-pub record Onward (s : List ℕ) (at bytes next : ℕ) : Type 0 where
-  pub past : at + bytes ≤ next
+-- the place behind a record is where its length says, and within the table; the record has no fewer and no more bytes than these
+pub record Onward (s : List ℕ) (at least most next : ℕ) : Type 0 where
+  pub sized : next ≡ at + 2 + numberAt s at 2
+  pub past : at + least ≤ next
+  pub near : next ≤ at + most
   pub within : next ≤ length s
 
 -- a port record: there was room for it, it could come here, and its rate is within the limits
 pub record PortAccepted (s : List ℕ) (at : ℕ) (before : Before) (p : Port) (next : ℕ) : Type 0 where
-  pub onward : Onward s at 8 next
+  pub onward : Onward s at 8 8 next
   pub room : before .ports < mostPorts
   pub may-come : before .«port_may_come» ≡ true
   pub fits : PortFits p
 
 -- a connection or buffer: there was room for it, and it is within the limits
 pub record LinkAccepted (s : List ℕ) (at : ℕ) (before : Before) (l : Link) (next : ℕ) : Type 0 where
-  pub onward : Onward s at 16 next
+  pub onward : Onward s at 16 20 next
   pub room : before .links < mostLinks
   pub fits : LinkFits (before .named) l
 
--- a refusal has one of the numbers 2 to 11
-pub record FaultNumber (n : ℕ) : Type 0 where
+-- a refusal has one of the numbers 2 to 11, and the place where the record begins, which is within the table
+pub record Fault (s : List ℕ) (at n place : ℕ) : Type 0 where
   pub least : 2 ≤ n
   pub most : n ≤ 11
+  pub here : place ≡ at
+  pub within : at < length s
 
 -- what reading a record tells, by its outcome
 abbrev pub Accepted : List ℕ → ℕ → Before → Read → Type 0
 Accepted s at before (PortRecord p next) = PortAccepted s at before p next
 Accepted s at before (LinkRecord l next) = LinkAccepted s at before l next
-Accepted s at before (Refused n) = FaultNumber n
+Accepted s at before (Refused n place) = Fault s at n place
 Accepted s at before End = Unit
 
 -- neither of two tests finds a fault
@@ -133,20 +138,20 @@ module _ (s : List ℕ) (at : ℕ) (before : Before) where
     told : Accepted s at before r
 
   -- what holds of each refusal, and behind each test, holds of the chain of tests
-  behind : (n : ℕ) → FaultNumber n → (test : Bool) (r : Read) → (test ≡ false → Tells r) → Tells (refuse n test r)
+  behind : (n : ℕ) → Fault s at n at → (test : Bool) (r : Read) → (test ≡ false → Tells r) → Tells (refuse at n test r)
   behind n number true r f = record { told = number }
   behind n number false r f = f refl
 
-  either : (test : Bool) (r r' : Read) → Tells r → Tells r' → Tells (cond test r r')
-  either true r r' t t' = t
-  either false r r' t t' = t'
+  either : (test : Bool) (r r' : Read) → Tells r → (test ≡ false → Tells r') → Tells (cond test r r')
+  either true r r' t f = t
+  either false r r' t f = f refl
 
   sized : (n m : ℕ) → not (eqb n m) ≡ false → n ≡ m
   sized n m size = eqb-true n m (not-false (eqb n m) size)
 
-  tells-port : (n : ℕ) → at + 2 + n ≤ length s → Tells (portAt s at n before)
+  tells-port : (n : ℕ) → numberAt s at 2 ≡ n → at + 2 + n ≤ length s → Tells (portAt s at n before)
   unfolding portAt portOf
-  tells-port n ends = behind 4 (omega arith) _ _ (λ size. behind 5 (omega arith) _ _ (λ may. behind 6 (omega arith) _ _ (λ room. behind 8 (omega arith) _ _ (λ parts. record { told = told size may room parts }))))
+  tells-port n is ends = behind 4 (omega arith) _ _ (λ size. behind 5 (omega arith) _ _ (λ may. behind 6 (omega arith) _ _ (λ room. behind 8 (omega arith) _ _ (λ parts. record { told = told size may room parts }))))
     where
       told : not (eqb n 6) ≡ false → not (before .«port_may_come») ≡ false → leb mostPorts (before .ports) ≡ false
           → partsFaulty s (at + 4) ≡ false
@@ -160,15 +165,15 @@ module _ (s : List ℕ) (at : ℕ) (before : Before) where
             fits = record { num = fit .num; den = fit .den };
           }
 
-  tells-link : (events : Events) (buffer : Bool) (next : ℕ) → Onward s at 16 next → Tells (linkAt s at before events buffer next)
-  unfolding linkAt linkOf
-  tells-link events buffer next onward = behind 7 (omega arith) _ _ (λ room. behind 9 (omega arith) _ _ (λ ends. behind 10 (omega arith) _ _ (λ parts. behind 11 (omega arith) _ _ (λ amounts. record { told = told room ends parts amounts }))))
+  tells-link : (events : Events) (buffer : Bool) (next : ℕ) → Onward s at 16 20 next → Tells (linkAt s at before events buffer next)
+  unfolding linkAt linkOf delaysFaulty
+  tells-link events buffer next onward = behind 7 (omega (arith, onward)) _ _ (λ room. behind 9 (omega (arith, onward)) _ _ (λ ends. behind 10 (omega (arith, onward)) _ _ (λ parts. behind 11 (omega (arith, onward)) _ _ (λ amounts. record { told = told room ends parts amounts }))))
     where
       ticks : Ticks
       ticks = ticksAt s (at + 12)
 
       told : leb mostLinks (before .links) ≡ false → endsFaulty s (at + 4) (before .named) ≡ false → partsFaulty s (at + 8) ≡ false
-          → (amountFaulty mostTicks (ticks .0) (ticks .1) || amountFaulty mostEvents (events .0) (events .1)) ≡ false
+          → delaysFaulty ticks events ≡ false
           → LinkAccepted s at before (linkOf s (at + 4) ticks events buffer) next
       told room ends parts amounts =
           let e = ends-fit s (at + 4) (before .named) ends in
@@ -193,12 +198,13 @@ module _ (s : List ℕ) (at : ℕ) (before : Before) where
             };
           }
 
-  tells-kind : (n kind : ℕ) → at + 2 + n ≤ length s → Tells (kindAt s at n kind before)
+  tells-kind : (n kind : ℕ) → numberAt s at 2 ≡ n → at + 2 + n ≤ length s → Tells (kindAt s at n kind before)
   unfolding kindAt connectionAt bufferAt
-  tells-kind n kind ends =
-      either (eqb kind 1) _ _ (tells-port n ends)
-      (either (eqb kind 2) _ _ (behind 4 (omega arith) (not (eqb n 18)) _ (λ size. tells-link (eventsAt s (at + 16)) false (at + 20) (omega (arith, sized n 18 size))))
-      (either (eqb kind 3) _ (Refused 3) (behind 4 (omega arith) (not (eqb n 14)) _ (λ size. tells-link (0, 0) true (at + 16) (omega (arith, sized n 14 size)))) (record { told = omega arith })))
+  tells-kind n kind is ends =
+      either (eqb kind 1) _ _ (tells-port n is ends)
+      (λ _. either (eqb kind 2) _ _ (behind 4 (omega arith) (not (eqb n 18)) _ (λ size. tells-link (eventsAt s (at + 16)) false (at + 20) (omega (arith, sized n 18 size))))
+      (λ _. either (eqb kind 3) _ (Refused 3 at) (behind 4 (omega arith) (not (eqb n 14)) _ (λ size. tells-link (0, 0) true (at + 16) (omega (arith, sized n 14 size))))
+      (λ _. record { told = omega arith })))
 
   -- reading a record tells this
   pub accepted : Accepted s at before (recordAt s at before)
@@ -208,4 +214,6 @@ module _ (s : List ℕ) (at : ℕ) (before : Before) where
       tells : Tells (recordAt s at before)
       tells =
           either (leb (length s) at) End _ (record { told = tt })
-          (behind 2 (omega arith) _ _ (λ size. tells-kind (numberAt s at 2) (numberAt s (at + 2) 2) (whole s at size .ends)))
+          (λ some.
+          let within = leb-false (length s) at some in
+          behind 2 (omega (arith, within)) _ _ (λ size. tells-kind (numberAt s at 2) (numberAt s (at + 2) 2) refl (whole s at size .ends)))

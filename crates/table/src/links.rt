@@ -82,20 +82,6 @@ pub fn den(links: &[u32], k: usize) -> u64
     link(links, k).den
 }
 
-pub fn ticks(links: &[u32], k: usize) -> Ticks
-    requires { ⌜ k < length (linksOf (now links)) ⌝ }
-    ensures { λ r. ⌜ r ≡ getD (linksOf (now (links .entry))) k noLink .ticks ⌝ }
-{
-    link(links, k).ticks
-}
-
-pub fn events(links: &[u32], k: usize) -> Events
-    requires { ⌜ k < length (linksOf (now links)) ⌝ }
-    ensures { λ r. ⌜ r ≡ getD (linksOf (now (links .entry))) k noLink .events ⌝ }
-{
-    link(links, k).events
-}
-
 pub fn buffer(links: &[u32], k: usize) -> bool
     requires { ⌜ k < length (linksOf (now links)) ⌝ }
     ensures { λ r. ⌜ r ≡ getD (linksOf (now (links .entry))) k noLink .buffer ⌝ }

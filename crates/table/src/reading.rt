@@ -11,9 +11,11 @@ use specification::Before;
 use specification::Link;
 use specification::Read;
 
-// The number of document 01, 0 where there is no fault, and how many ports and links the slices hold.
+// The number of document 01, 0 where there is no fault; the place of the fault, 0 where there is none; and how many ports and links the
+// slices hold.
 pub struct Counts {
     pub number: u64,
+    pub place: usize,
     pub port_count: usize,
     pub link_count: usize,
 }
@@ -74,9 +76,10 @@ pub fn read_on(s: &[u8], before: Before, ports: &mut [u32], links: &mut [u32]) -
                 b = with_link(b);
                 at = next;
             }
-            Read::Refused(number) => {
+            Read::Refused(number, place) => {
                 return Counts {
                     number,
+                    place,
                     port_count,
                     link_count,
                 };
@@ -84,6 +87,7 @@ pub fn read_on(s: &[u8], before: Before, ports: &mut [u32], links: &mut [u32]) -
             Read::End => {
                 return Counts {
                     number: 0,
+                    place: 0,
                     port_count,
                     link_count,
                 };

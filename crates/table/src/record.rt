@@ -2,7 +2,7 @@
 ghost use mathlib.Core.Path.{_≡_};
 ghost use Prim.Native.Nat.{_+_, _≤_, _<_};
 ghost use lib.ListN.{length};
-ghost use Rattle.specification.specs.Reading.{lengthFaulty, partFaulty, partsFaulty, endsFaulty, ticksAt, eventsAt, amountFaulty, portOf, linkOf, portAt, linkAt, kindAt, recordAt};
+ghost use Rattle.specification.specs.Reading.{lengthFaulty, partFaulty, partsFaulty, endsFaulty, ticksAt, eventsAt, amountFaulty, delaysFaulty, portOf, linkOf, portAt, linkAt, kindAt, recordAt};
 use crate::numbers;
 use records::read::number_at;
 use specification::Before;
@@ -77,6 +77,15 @@ fn amount_faulty(most: u64, forward: u64, back: u64) -> bool
     most < back
 }
 
+fn delays_faulty(ticks: Ticks, events: Events) -> bool
+    ensures { λ r. ⌜ r ≡ delaysFaulty ticks events ⌝ }
+{
+    if amount_faulty(limits::TICKS, ticks.0, ticks.1) {
+        return true;
+    }
+    amount_faulty(limits::EVENTS, events.0, events.1)
+}
+
 fn events_at(s: &[u8], at: usize) -> Events
     requires { ⌜ at + 4 ≤ length (now s) ⌝ }
     ensures { λ r. ⌜ r ≡ eventsAt (now (s .entry)) at ⌝ }
@@ -119,16 +128,16 @@ fn read_port(s: &[u8], at: usize, n: usize, before: Before) -> Read
     ensures { λ r. ⌜ r ≡ portAt (now (s .entry)) at n before ⌝ }
 {
     if n != 6 {
-        return Read::Refused(4);
+        return Read::Refused(4, at);
     }
     if !before.port_may_come {
-        return Read::Refused(5);
+        return Read::Refused(5, at);
     }
     if limits::PORTS <= before.ports {
-        return Read::Refused(6);
+        return Read::Refused(6, at);
     }
     if parts_faulty(s, at + 4) {
-        return Read::Refused(8);
+        return Read::Refused(8, at);
     }
     Read::PortRecord(port_of(s, at + 4), at + 8)
 }
@@ -139,20 +148,17 @@ fn read_link(s: &[u8], at: usize, before: Before, events: Events, buffer: bool, 
     ensures { λ r. ⌜ r ≡ linkAt (now (s .entry)) at before events buffer next ⌝ }
 {
     if limits::LINKS <= before.links {
-        return Read::Refused(7);
+        return Read::Refused(7, at);
     }
     if ends_faulty(s, at + 4, before.named) {
-        return Read::Refused(9);
+        return Read::Refused(9, at);
     }
     if parts_faulty(s, at + 8) {
-        return Read::Refused(10);
+        return Read::Refused(10, at);
     }
     let ticks = ticks_at(s, at + 12);
-    if amount_faulty(limits::TICKS, ticks.0, ticks.1) {
-        return Read::Refused(11);
-    }
-    if amount_faulty(limits::EVENTS, events.0, events.1) {
-        return Read::Refused(11);
+    if delays_faulty(ticks, events) {
+        return Read::Refused(11, at);
     }
     Read::LinkRecord(link_of(s, at + 4, ticks, events, buffer), next)
 }
@@ -167,17 +173,17 @@ fn read_kind(s: &[u8], at: usize, n: usize, kind: u64, before: Before) -> Read
     }
     if kind == 2 {
         if n != 18 {
-            return Read::Refused(4);
+            return Read::Refused(4, at);
         }
         return read_link(s, at, before, events_at(s, at + 16), false, at + 20);
     }
     if kind == 3 {
         if n != 14 {
-            return Read::Refused(4);
+            return Read::Refused(4, at);
         }
         return read_link(s, at, before, Events(0, 0), true, at + 16);
     }
-    Read::Refused(3)
+    Read::Refused(3, at)
 }
 
 // The record at a place, tried for 2 to 11 in order.
@@ -188,7 +194,7 @@ pub fn read_record(s: &[u8], at: usize, before: Before) -> Read
         return Read::End;
     }
     if length_faulty(s, at) {
-        return Read::Refused(2);
+        return Read::Refused(2, at);
     }
     let n = number_at(s, at, 2) as usize;
     let kind = number_at(s, at + 2, 2);

@@ -1,8 +1,10 @@
-// Prints the number that each of the tables on standard input gives: two bytes with a table's length, then the table.
+// Prints the number and the place that each of the tables on standard input gives: two bytes with a table's length, then the table.
 ghost use Prim.Native.Nat.{_+_, _≤_, _<_};
 ghost use mathlib.Core.Path.{_≡_};
 ghost use lib.ListN.{length};
 ghost use Rattle.specification.specs.Reading.{readTable};
+use table::reading;
+use table::reading::Counts;
 
 fn main() {
     let mut buffer = io::large_buffer();
@@ -23,18 +25,26 @@ fn run(s: &[u8]) {
             return;
         }
         let end = start + size;
-        io::print_decimal(libc::STDOUT_FILENO, number_of(&s[start..end]));
-        io::write_all(libc::STDOUT_FILENO, b"\n");
+        print_line(&s[start..end]);
         at = end;
     }
 }
 
-fn number_of(s: &[u8]) -> u64
-    ensures { λ r. ⌜ r ≡ readTable (now (s .entry)) .number ⌝ }
+fn print_line(s: &[u8]) {
+    let r = read(s);
+    io::print_decimal(libc::STDOUT_FILENO, r.number);
+    io::write_all(libc::STDOUT_FILENO, b" ");
+    io::print_decimal(libc::STDOUT_FILENO, r.place as u64);
+    io::write_all(libc::STDOUT_FILENO, b"\n");
+}
+
+fn read(s: &[u8]) -> Counts
+    ensures { λ r. ⌜ r .number ≡ readTable (now (s .entry)) .number ⌝ }
+    ensures { λ r. ⌜ r .place ≡ readTable (now (s .entry)) .place ⌝ }
 {
     let mut ports = [0u32; 128];
     let mut links = link_numbers();
-    table::reading::read_table(s, &mut ports, &mut links).number
+    reading::read_table(s, &mut ports, &mut links)
 }
 
 // Nine numbers for each of 256 links.

@@ -2,7 +2,7 @@
 use Prim.Native.Nat.{ℕ, zero, suc, _*_, _/_, _%_}
 use mathlib.Core.Bool.{Bool, cond}
 use mathlib.Core.List.{List, [], _∷_, _++_}
-use lib.Dec.{ltb}
+use lib.Dec.{eqb, ltb}
 use Rattle.io.specs.Digits.{glyph}
 use Rattle.fraction.specs.Lowest.{lowestTerms}
 use Rattle.fraction.specs.declared.Fraction.{Fraction}
@@ -31,6 +31,10 @@ space = 32 ∷ []
 -- "answer "
 abbrev pub answerWord : List ℕ
 answerWord = 97 ∷ 110 ∷ 115 ∷ 119 ∷ 101 ∷ 114 ∷ 32 ∷ []
+
+-- " at "
+abbrev pub atWord : List ℕ
+atWord = 32 ∷ 97 ∷ 116 ∷ 32 ∷ []
 
 -- "port "
 abbrev pub portWord : List ℕ
@@ -88,9 +92,13 @@ field word n = word ++ decimal n
 unfoldable pub fractionField : (word : List ℕ) → Fraction → List ℕ
 fractionField word f = word ++ fraction f
 
+-- every number but 0 is followed by its place, which may be 0
+unfoldable pub placeText : (number place : ℕ) → List ℕ
+placeText number place = cond (eqb number 0) [] (field atWord place)
+
 -- the first line
-unfoldable pub answerLine : (number : ℕ) → List ℕ
-answerLine number = field answerWord number ++ lineEnd
+unfoldable pub answerLine : (number place : ℕ) → List ℕ
+answerLine number place = field answerWord number ++ placeText number place ++ lineEnd
 
 -- a port's fields, its period and start as fractions
 unfoldable pub portText : (number component weight : ℕ) (period start : Fraction) → List ℕ

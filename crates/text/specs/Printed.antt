@@ -82,10 +82,10 @@ module _ (s : List ℕ) where
   recordLines (suc n) at number =
       cond (isRecord at) (recordLine at number ++ recordLines n (at + 2 + numberAt s at 2) (number + 1)) []
 
--- the whole text: the number, and a line for each of the answer's records. Bytes that are no record end it
-unfoldable pub printed : (number : ℕ) → List ℕ → List ℕ
-printed number s = answerLine number ++ recordLines s (length s) 0 0
+-- the whole text: the number and its place, and a line for each of the answer's records. Bytes that are no record end it
+unfoldable pub printed : (number place : ℕ) → List ℕ → List ℕ
+printed number place s = answerLine number place ++ recordLines s (length s) 0 0
 
--- the room that it needs at most: twelve bytes for each byte of the records, and 28 for the first line
+-- the room that it needs at most: twelve bytes for each byte of the records, and 52 for the first line
 abbrev pub printedRoom : List ℕ → ℕ
-printedRoom s = 12 * length s + 28
+printedRoom s = 12 * length s + 52

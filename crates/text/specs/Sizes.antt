@@ -18,6 +18,7 @@ use Rattle.text.specs.Lines.{
   lineEnd,
   space,
   answerWord,
+  atWord,
   portWord,
   componentWord,
   weightWord,
@@ -31,6 +32,7 @@ use Rattle.text.specs.Lines.{
   signWord,
   field,
   fractionField,
+  placeText,
   answerLine,
   portText,
   portLine,
@@ -89,9 +91,13 @@ sign-size : (against : Bool) → AtMost (signWord against) 2
 unfolding signWord
 sign-size against = either against (λ e. word _) (λ e. word _)
 
-answer-size : (number : ℕ) → AtMost (answerLine number) 28
+place-size : (number place : ℕ) → AtMost (placeText number place) 24
+unfolding placeText
+place-size number place = either (eqb number 0) (λ e. less (word []) (omega arith)) (λ e. field-size atWord _)
+
+answer-size : (number place : ℕ) → AtMost (answerLine number place) 52
 unfolding answerLine
-answer-size number = field-size answerWord _ ⊕ word lineEnd
+answer-size number place = field-size answerWord _ ⊕ place-size number place ⊕ word lineEnd
 
 port-size : (number component weight a b start : ℕ) → AtMost (portLine number component weight a b start) 182
 unfolding portLine portText
@@ -166,6 +172,6 @@ module _ (s : List ℕ) where
       (λ e. less (word []) (omega arith))
 
 -- the room suffices
-pub printed-size : (number : ℕ) (s : List ℕ) → AtMost (printed number s) (printedRoom s)
+pub printed-size : (number place : ℕ) (s : List ℕ) → AtMost (printed number place s) (printedRoom s)
 unfolding printed
-printed-size number s = less (answer-size number ⊕ records-size s (length s) 0 0 (omega arith)) (omega arith)
+printed-size number place s = less (answer-size number place ⊕ records-size s (length s) 0 0 (omega arith)) (omega arith)

@@ -1,8 +1,9 @@
-// Prints an answer: its number, and a line for each of its records.
+// Prints an answer: its number and place, and a line for each of its records.
 ghost use mathlib.Core.Path.{_≡_};
 ghost use Prim.Native.Nat.{_+_, _*_, _≤_};
 ghost use lib.ListN.{length};
 ghost use Rattle.specification.specs.Bytes.{numberAt, Written};
+ghost use Rattle.text.specs.Lines.{placeText};
 ghost use Rattle.text.specs.Printed.{hasLine, isRecord, recordLine, recordLines, printed, printedRoom};
 ghost use Rattle.text.specs.Places.{Lies};
 ghost use Rattle.text.specs.Put.{Put};
@@ -86,13 +87,26 @@ fn put_records(s: &[u8], text: &mut [u8], to: usize) -> usize
     end
 }
 
-// The printed form of an answer: its number and its records' lines. Returns how many bytes of the text it wrote.
-pub fn print(number: u64, records: &[u8], text: &mut [u8]) -> usize
+// The place of a number; 0 is printed without one.
+fn put_place(number: u64, place: usize, text: &mut [u8], to: usize) -> usize
+    requires { ⌜ to + 24 ≤ length (now text) ⌝ }
+    ensures { λ r. ⌜ Put (placeText number place) (now (text .entry)) (now (text .exit)) to r ⌝ }
+    ensures within { λ r. ⌜ r ≤ to + 24 ⌝ }
+{
+    if number == 0 {
+        return to;
+    }
+    put_field(text, to, b" at ", place as u64)
+}
+
+// The printed form of an answer: its number, its place and its records' lines. Returns how many bytes of the text it wrote.
+pub fn print(number: u64, place: usize, records: &[u8], text: &mut [u8]) -> usize
     requires { ⌜ printedRoom (now records) ≤ length (now text) ⌝ }
-    ensures { λ r. ⌜ Written (printed number (now (records .entry))) (now (text .entry)) (now (text .exit)) r ⌝ }
+    ensures { λ r. ⌜ Written (printed number place (now (records .entry))) (now (text .entry)) (now (text .exit)) r ⌝ }
     ensures { λ r. ⌜ r ≤ length (now (text .exit)) ⌝ }
 {
     let mut end = put_field(text, 0, b"answer ", number);
+    end = put_place(number, place, text, end);
     end = put_word(text, end, b"\n");
     put_records(records, text, end)
 }

@@ -235,13 +235,14 @@ module _ {t : Table} {weights members numbers : List ℕ} {ends : List (List ℕ
         number-is = next-number;
       }
 
-      pub turns-shown : r ≢ 0 → Decided t answer₀ answer′ (record { number = 15; written = r })
+      pub turns-shown : r ≢ 0 → Decided t answer₀ answer′ (record { number = 15; place = 0; written = r })
       turns-shown some =
           let h : Shown t answer₀ answer′ r = rw (← s .unchanged) (this .of (s .timed) .blocked (pos-of-ne-zero some)) in
           record {
             answer = blocked (h .floor) (h .block);
             right = h .no-period;
             number-is = refl;
+            place-is = refl;
             records-are = h .records-are;
             fits = tt;
           }
@@ -267,11 +268,12 @@ module _ {t : Table} {weights members numbers : List ℕ} {ends : List (List ℕ
   all-numbers = timed-numbers (s .slices .labelled) timed-all
 
   pub turns-all : {after : List ℕ} {written : ℕ} → Written (records t (consistent (timingOf t weights kept))) answer after written
-      → Decided t answer₀ after (record { number = 0; written = written })
+      → Decided t answer₀ after (record { number = 0; place = 0; written = written })
   turns-all w = record {
     answer = consistent (timingOf t weights kept);
     right = timed-consistent (s .slices .labelled) timed-all (λ k i. size-is all-numbers i);
     number-is = refl;
+    place-is = refl;
     records-are = rw (← s .unchanged) w;
     fits = timed-fields (s .slices .labelled) timed-all (λ k i. size-small all-numbers i);
   }

@@ -21,7 +21,7 @@ returns : tie.Need-returns
 returns c =
     let at-read-table = c .before .before .before .before .before .before in
     let entry = at-read-table .before .before .before .before .before .before .before in
-    (analysed-faulty _ _ _ (at-read-table .read-table .ensures .number) (c .if1 .taken) (entry .pre .1), omega arith)
+    (analysed-faulty _ _ _ _ (at-read-table .read-table .ensures .number) (at-read-table .read-table .ensures .place) (c .if1 .taken) (entry .pre .1), omega arith)
 
 mul-port-end : tie.Need-mul-port-end
 mul-port-end c = search needs
@@ -68,7 +68,7 @@ returns-2 c =
     let entry = at-read-table .before .before .before .before .before .before .before in
     let read = at-read-table .read-table .ensures in
     let decided = c .before .before .decide .ensures in
-    (analysed-decided (table-read read) (sym (read .number) ∙ at-if1 .if1 .left) (entry .pre .1) decided, written-room (formed-read _ read (at-if1 .if1 .left)) decided)
+    (analysed-decided _ (table-read read) (sym (read .number) ∙ at-if1 .if1 .left) (entry .pre .1) decided, written-room (formed-read _ read (at-if1 .if1 .left)) decided)
 
 pub read-in-spec : {M : Type 1} → statement M
 read-in-spec =

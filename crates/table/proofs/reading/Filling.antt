@@ -16,10 +16,11 @@ use Rattle.specification.specs.declared.Before.{Before}
 use Rattle.table.specs.declared.reading.Counts.{Counts}
 
 module _ {b : Before} {ports links : List ℕ} where
-  pub filled-nothing : {bytes : ℕ} (number : ℕ) → Room bytes b (length ports) (length links)
-      → Filled b (nothing number) ports links ports links (record { number = number; «port_count» = b .ports; «link_count» = b .links })
-  filled-nothing number room = record {
+  pub filled-nothing : {bytes : ℕ} (number place : ℕ) → Room bytes b (length ports) (length links)
+      → Filled b (nothing number place) ports links ports links (record { number = number; place = place; «port_count» = b .ports; «link_count» = b .links })
+  filled-nothing number place room = record {
     number = refl;
+    place = refl;
     port-count = omega arith;
     link-count = omega arith;
     port-room = omega (arith, room);
@@ -36,6 +37,7 @@ module _ {b : Before} {ports links : List ℕ} where
         let by : (b .ports + 1) - (b .named + 1) ≡ b .ports - b .named = omega arith in
         record {
           number = f .number;
+          place = f .place;
           port-count = omega (arith, f .port-count);
           link-count = f .link-count;
           port-room = omega (arith, f .port-room, length-sets ports (2 * b .ports) (p .num ∷ p .den ∷ []));
@@ -51,6 +53,7 @@ module _ {b : Before} {ports links : List ℕ} where
         let on : 9 * (b .links + 1) ≡ suc (suc (suc (suc (suc (suc (suc (suc (suc (9 * b .links))))))))) = omega arith in
         record {
           number = f .number;
+          place = f .place;
           port-count = f .port-count;
           link-count = omega (arith, f .link-count);
           port-room = f .port-room;
@@ -62,9 +65,11 @@ module _ {b : Before} {ports links : List ℕ} where
 -- ---- 12 where there is no port
 module _ {b : Before} {r : Reading} {ports links ports′ links′ : List ℕ} {c : Counts} (f : Filled b r ports links ports′ links′ c) where
   -- the same places filled, whatever the number
-  numbered : (n : ℕ) → Filled b (record { number = n; table = r .table }) ports links ports′ links′ (record { number = n; «port_count» = c .«port_count»; «link_count» = c .«link_count» })
+  numbered : (n : ℕ)
+      → Filled b (record { number = n; place = r .place; table = r .table }) ports links ports′ links′ (record { number = n; place = c .place; «port_count» = c .«port_count»; «link_count» = c .«link_count» })
   numbered n = record {
     number = refl;
+    place = f .place;
     port-count = f .port-count;
     link-count = f .link-count;
     port-room = f .port-room;
@@ -75,7 +80,7 @@ module _ {b : Before} {r : Reading} {ports links ports′ links′ : List ℕ} {
 
 module _ {r : Reading} {ports links ports′ links′ : List ℕ} {c : Counts} (f : Filled start r ports links ports′ links′ c) where
   pub no-port : c .number ≡ 0 → c .«port_count» ≡ 0
-      → Filled start (somePort r) ports links ports′ links′ (record { number = 12; «port_count» = c .«port_count»; «link_count» = c .«link_count» })
+      → Filled start (somePort r) ports links ports′ links′ (record { number = 12; place = c .place; «port_count» = c .«port_count»; «link_count» = c .«link_count» })
   no-port e d =
       rw (eq-eqb (r .number) 0 (omega (arith, f .number)), eq-eqb (length (r .table .ports)) 0 (omega (arith, f .port-count))) (numbered f 12)
 

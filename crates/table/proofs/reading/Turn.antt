@@ -139,10 +139,10 @@ module _ {s ports₀ links₀ : List ℕ} {by : ℕ} {b₀ : Before} {ports link
         long-links = long ∙ g .long-links;
       })
 
-  pub refused : {number : ℕ} → Turn s ports₀ links₀ by b₀ ports links b at (Refused number)
-      → Filled b₀ (readOn s b₀) ports₀ links₀ ports links (record { number = number; «port_count» = b .ports; «link_count» = b .links })
-  refused {number} w = w .then _ _ _ (filled-nothing number (w .going .room))
+  pub refused : {number place : ℕ} → Turn s ports₀ links₀ by b₀ ports links b at (Refused number place)
+      → Filled b₀ (readOn s b₀) ports₀ links₀ ports links (record { number = number; place = place; «port_count» = b .ports; «link_count» = b .links })
+  refused {number} {place} w = w .then _ _ _ (filled-nothing number place (w .going .room))
 
   pub ended : Turn s ports₀ links₀ by b₀ ports links b at End
-      → Filled b₀ (readOn s b₀) ports₀ links₀ ports links (record { number = 0; «port_count» = b .ports; «link_count» = b .links })
-  ended w = w .then _ _ _ (filled-nothing 0 (w .going .room))
+      → Filled b₀ (readOn s b₀) ports₀ links₀ ports links (record { number = 0; place = 0; «port_count» = b .ports; «link_count» = b .links })
+  ended w = w .then _ _ _ (filled-nothing 0 0 (w .going .room))

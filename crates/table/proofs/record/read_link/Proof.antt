@@ -1,9 +1,30 @@
 -- By the tests, in their order.
-use Rattle.specification.specs.Reading.{linkAt}
+use Prim.Native.Nat.{ℕ, _+_, _<_}
+use mathlib.Core.Path.{_≡_}
+use mathlib.Core.Bool.{Bool, false}
+use mathlib.Core.List.{List}
+use Rattle.specification.specs.Table.{mostLinks}
+use Rattle.specification.specs.Reading.{refuse, partsFaulty, endsFaulty, ticksAt, delaysFaulty, linkOf, linkAt}
+use Rattle.specification.specs.declared.Events.{Events}
+use Rattle.specification.specs.declared.Before.{Before}
+use Rattle.specification.specs.declared.Read.{Read}
+use Rattle.specification.specs.declared.Read.the-variants.{LinkRecord}
 use borrow.Author.Tests.{le-leb, lt-leb}
 use borrow.Author.Needs.{needs}
 use Rattle.table.proofs.record.read_link.Statement.{statement}
 use Rattle.table.proofs.record.read_link.Tie as tie
+
+-- what is left where there is room and neither the ends nor the ratio have a fault
+past-parts : (s : List ℕ) (at : ℕ) (before : Before) (events : Events) (buffer : Bool) (next : ℕ) {ends parts : Bool} {r : Read}
+    → before .links < mostLinks
+    → ends ≡ endsFaulty s (at + 4) (before .named)
+    → ends ≡ false
+    → parts ≡ partsFaulty s (at + 8)
+    → parts ≡ false
+    → r ≡ refuse at 11 (delaysFaulty (ticksAt s (at + 12)) events) (LinkRecord (linkOf s (at + 4) (ticksAt s (at + 12)) events buffer) next)
+    → r ≡ linkAt s at before events buffer next
+unfolding linkAt
+past-parts s at before events buffer next room e ends p parts is = rw (lt-leb mostLinks (before .links) room, ← e, ends, ← p, parts) is
 
 returns : tie.Need-returns
 unfolding linkAt
@@ -37,42 +58,17 @@ add-ticks-at c = search needs
 ticks-at-requires : tie.Need-ticks-at-requires
 ticks-at-requires c κs = search needs
 
-amount-faulty-requires : tie.Need-amount-faulty-requires
-amount-faulty-requires c κs = search needs
+delays-faulty-requires : tie.Need-delays-faulty-requires
+delays-faulty-requires c κs = search needs
 
 returns-4 : tie.Need-returns-4
-unfolding linkAt
 returns-4 c =
-    let at-parts-faulty = c .before .before .before .before in
-    let at-if2 = at-parts-faulty .before in
-    let at-ends-faulty = at-if2 .before in
-    let at-if1 = at-ends-faulty .before in
-    rw (lt-leb _ _ (at-if1 .if1 .left), ← at-ends-faulty .ends-faulty .ensures, at-if2 .if2 .left, ← at-parts-faulty .parts-faulty .ensures, c .before .before .before .if3 .left, ← c .before .before .ticks-at .ensures, ← c .before .amount-faulty .ensures, c .if4 .taken)
-
-amount-faulty-requires-2 : tie.Need-amount-faulty-requires-2
-amount-faulty-requires-2 c κs = search needs
-
-returns-5 : tie.Need-returns-5
-unfolding linkAt
-returns-5 c =
-    let at-ticks-at = c .before .before .before .before in
-    let at-if3 = at-ticks-at .before in
+    let at-if3 = c .before .before .before in
     let at-parts-faulty = at-if3 .before in
     let at-if2 = at-parts-faulty .before in
     let at-ends-faulty = at-if2 .before in
-    let at-if1 = at-ends-faulty .before in
-    rw (
-      lt-leb _ _ (at-if1 .if1 .left),
-      ← at-ends-faulty .ends-faulty .ensures,
-      at-if2 .if2 .left,
-      ← at-parts-faulty .parts-faulty .ensures,
-      at-if3 .if3 .left,
-      ← at-ticks-at .ticks-at .ensures,
-      ← c .before .before .before .amount-faulty .ensures,
-      c .before .before .if4 .left,
-      ← c .before .amount-faulty2 .ensures,
-      c .if5 .taken,
-    )
+    past-parts _ _ _ _ _ _ (at-ends-faulty .before .if1 .left) (at-ends-faulty .ends-faulty .ensures) (at-if2 .if2 .left) (at-parts-faulty .parts-faulty .ensures) (at-if3 .if3 .left)
+    (rw (← c .before .before .ticks-at .ensures, ← c .before .delays-faulty .ensures, c .if4 .taken))
 
 add-link-of : tie.Need-add-link-of
 add-link-of c = search needs
@@ -80,29 +76,15 @@ add-link-of c = search needs
 link-of-requires : tie.Need-link-of-requires
 link-of-requires c κs = search needs
 
-returns-6 : tie.Need-returns-6
-unfolding linkAt
-returns-6 c =
-    let at-amount-faulty = c .before .before .before .before in
-    let at-ticks-at = at-amount-faulty .before in
-    let at-if3 = at-ticks-at .before in
+returns-5 : tie.Need-returns-5
+returns-5 c =
+    let at-delays-faulty = c .before .before in
+    let at-if3 = at-delays-faulty .before .before in
     let at-parts-faulty = at-if3 .before in
     let at-if2 = at-parts-faulty .before in
     let at-ends-faulty = at-if2 .before in
-    let at-if1 = at-ends-faulty .before in
-    rw (
-      lt-leb _ _ (at-if1 .if1 .left),
-      ← at-ends-faulty .ends-faulty .ensures,
-      at-if2 .if2 .left,
-      ← at-parts-faulty .parts-faulty .ensures,
-      at-if3 .if3 .left,
-      ← at-ticks-at .ticks-at .ensures,
-      ← at-amount-faulty .amount-faulty .ensures,
-      c .before .before .before .if4 .left,
-      ← c .before .before .amount-faulty2 .ensures,
-      c .before .if5 .left,
-      c .link-of .ensures,
-    )
+    past-parts _ _ _ _ _ _ (at-ends-faulty .before .if1 .left) (at-ends-faulty .ends-faulty .ensures) (at-if2 .if2 .left) (at-parts-faulty .parts-faulty .ensures) (at-if3 .if3 .left)
+    (rw (← at-delays-faulty .before .ticks-at .ensures, ← at-delays-faulty .delays-faulty .ensures, c .before .if4 .left, c .link-of .ensures))
 
 pub read-link-spec : {M : Type 1} → statement M
 read-link-spec =
@@ -117,10 +99,8 @@ read-link-spec =
     returns-3
     add-ticks-at
     ticks-at-requires
-    amount-faulty-requires
+    delays-faulty-requires
     returns-4
-    amount-faulty-requires-2
-    returns-5
     add-link-of
     link-of-requires
-    returns-6)
+    returns-5)

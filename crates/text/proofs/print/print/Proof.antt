@@ -15,6 +15,9 @@ slice-aggregate-put-field c = search needs
 put-field-requires : tie.Need-put-field-requires
 put-field-requires c κs = search needs
 
+put-place-requires : tie.Need-put-place-requires
+put-place-requires c κs = search needs
+
 slice-aggregate-put-word : tie.Need-slice-aggregate-put-word
 slice-aggregate-put-word c = search needs
 
@@ -31,11 +34,13 @@ returns : tie.Need-returns
 unfolding printed answerLine
 returns c =
     let at-put-word = c .before .before .before .before .before .before in
-    let at-put-field = at-put-word .before .before .before .before .before in
+    let at-put-place = at-put-word .before .before .before .before .before in
+    let at-put-field = at-put-place .before .before .before .before in
     let entry = at-put-field .before .before .before .before .before in
     let given = entry .args in
-    let room = printed-size (given .number) (given .records .now) .within in
-    let w = written (at-put-field .put-field .ensures .0 ⨾ at-put-word .put-word .ensures ⨾ c .before .before .put-records .ensures) (omega arith) in
+    let room = printed-size (given .number) (given .place) (given .records .now) .within in
+    let line = at-put-field .put-field .ensures .0 ⨾ at-put-place .put-place .ensures .0 ⨾ at-put-word .put-word .ensures in
+    let w = written (line ⨾ c .before .before .put-records .ensures) (omega arith) in
     (w, written-within w)
 
 pub print-spec : {M : Type 1} → statement M
@@ -44,6 +49,7 @@ print-spec =
     (tie.spec
     slice-aggregate-put-field
     put-field-requires
+    put-place-requires
     slice-aggregate-put-word
     put-word-requires
     put-records-requires
