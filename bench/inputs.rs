@@ -96,7 +96,10 @@ pub fn random_input(random: &mut Random) -> (Vec<u8>, usize) {
     let table = match random.below(100) {
         0..=64 => random_model(random).table(),
         65..=74 => edge_model(random).table(),
-        75..=94 => damaged(random),
+        75..=94 => {
+            let table = random_model(random).table();
+            damaged(random, table)
+        }
         95..=97 => random_records(random),
         _ => random_bytes(random),
     };
@@ -357,9 +360,8 @@ fn edge_model(random: &mut Random) -> Model {
     model
 }
 
-/// A table with a byte changed, its end cut off, or bytes more than it had.
-fn damaged(random: &mut Random) -> Vec<u8> {
-    let mut table = random_model(random).table();
+/// A table with a byte changed, its end cut off, or bytes more than it had. It has some bytes.
+fn damaged(random: &mut Random, mut table: Vec<u8>) -> Vec<u8> {
     match random.below(6) {
         0..=2 => {
             for _ in 0..1 + random.below(2) {
@@ -396,6 +398,60 @@ fn random_records(random: &mut Random) -> Vec<u8> {
 
 fn random_bytes(random: &mut Random) -> Vec<u8> {
     (0..random.below(300)).map(|_| random.next() as u8).collect()
+}
+
+/// The inputs of a join and the length of its out buffer.
+pub struct JoinInput {
+    pub first: Vec<u8>,
+    pub second: Vec<u8>,
+    pub added: Vec<u8>,
+    pub room: usize,
+}
+
+/// Two tables, half of the time about as large as they may be together, and links between the ports of both; some inputs empty or faulty.
+pub fn random_join(random: &mut Random) -> JoinInput {
+    let models = if random.percent(50) { [random_model(random), random_model(random)] } else { halves(random) };
+    let ports = models[0].ports.len() + models[1].ports.len();
+    let count = random.pick(&[0, 1, 3, 20]);
+    let links = random_delays(random, ports, count).links;
+    let added = Model { ports: Vec::new(), links };
+    let mut inputs = [models[0].table(), models[1].table(), added.table()];
+    for input in &mut inputs {
+        match random.below(20) {
+            0 => input.clear(),
+            1 if !input.is_empty() => *input = damaged(random, std::mem::take(input)),
+            2 => *input = random_input(random).0,
+            _ => (),
+        }
+    }
+    let size: usize = inputs.iter().map(Vec::len).sum();
+    let shorter = random.below(size + 1);
+    let room = random.pick(&[5_632, 5_632, size, size + 1, size.saturating_sub(1), shorter]);
+    let [first, second, added] = inputs;
+    JoinInput { first, second, added, room }
+}
+
+/// Models that together have 64 or 65 ports and now and then 256 or 257 links.
+fn halves(random: &mut Random) -> [Model; 2] {
+    let most_ports = random.pick(&[64, 64, 64, 65]);
+    let most_links = random.pick(&[64, 236, 253, 255, 256, 257]);
+    let (ports, links) = (1 + random.below(63), random.below(most_links + 1));
+    [random_delays(random, ports, links), random_delays(random, most_ports - ports, most_links - links)]
+}
+
+/// The join that is timed: tables of 32 ports and 128 connections each, which together are as large as a table may be; none added.
+pub fn join_workload() -> JoinInput {
+    let mut random = Random::new(32);
+    let mut half = || {
+        let mut model = Model::new(32, (1, 1));
+        while model.links.len() < 128 {
+            let (p, q) = (random.below(32), random.below(32));
+            let events = if p < q { 0 } else { -random.within(10, 60) };
+            model.links.push(connection(p, q, random.within(1, 50), events));
+        }
+        model.table()
+    };
+    JoinInput { first: half(), second: half(), added: Vec::new(), room: 5_632 }
 }
 
 /// What is timed: a name, a word on what it is, and the table.

@@ -1,10 +1,12 @@
-//! Compares the proved analysis with two ordinary ones: first that all three answer the same, then how long they take.
+//! Compares the proved analysis with two ordinary ones, and the proved join with an ordinary one: first that all answer the same, then how
+//! long they take.
 
 mod analysis;
 mod answers;
 mod exponents;
 mod in_place;
 mod inputs;
+mod join;
 mod model;
 mod ordinary;
 mod proved;
@@ -12,16 +14,20 @@ mod stack;
 mod validate;
 
 use analysis::Outcome;
-use std::fmt::Write;
+use inputs::JoinInput;
+use join::Joined;
 use std::hint::black_box;
 use std::process::exit;
 use std::time::Instant;
 
 type Analyse = fn(&[u8], &mut [u8]) -> Outcome;
+type Join = fn(&[u8], &[u8], &[u8], &mut [u8]) -> Joined;
 
 const SIDES: [(&str, Analyse); 3] =
     [("proved", proved::analyse), ("ordinary", ordinary::analyse), ("in place", in_place::analyse)];
+const JOIN_SIDES: [(&str, Join); 2] = [("proved", proved::join), ("ordinary", join::join)];
 const COMPARED: usize = 100_000;
+const COMPARED_JOINS: usize = 50_000;
 const SEED: u64 = 20_261_115;
 /// A sample of many short calls is at least about this long, so that reading the clock does not show.
 const SAMPLE_NANOSECONDS: f64 = 5_000.0;
@@ -31,8 +37,10 @@ const MOST_SAMPLES: f64 = 10_000.0;
 
 fn main() {
     compare();
+    compare_joins();
     fit_stack();
     time();
+    time_join();
 }
 
 fn compare() {
@@ -50,11 +58,7 @@ fn compare() {
                 }
             }
             Err(why) => {
-                let hex = table.iter().fold(String::new(), |mut text, byte| {
-                    write!(text, "{byte:02x}").unwrap();
-                    text
-                });
-                println!("{why}\nanswer buffer: {room} bytes\ntable: {hex}");
+                println!("{why}\nanswer buffer: {room} bytes\ntable: {}", hex(&table));
                 exit(1);
             }
         }
@@ -67,13 +71,66 @@ fn compare() {
     }
 }
 
+fn hex(bytes: &[u8]) -> String {
+    bytes.iter().map(|byte| format!("{byte:02x}")).collect()
+}
+
+fn compare_joins() {
+    let mut random = inputs::Random::new(SEED);
+    // for each number how often it concerned no record, and a record of each input
+    let mut counts = [[0; 4]; 17];
+    for _ in 0..COMPARED_JOINS {
+        let given = inputs::random_join(&mut random);
+        match same_join(&given, given.room) {
+            Ok((number, input)) => counts[number as usize][input as usize] += 1,
+            Err(why) => {
+                let JoinInput { first, second, added, room } = given;
+                println!("{why}\nout buffer: {room} bytes\nfirst: {}\nsecond: {}\nadded: {}", hex(&first), hex(&second), hex(&added));
+                exit(1);
+            }
+        }
+    }
+    println!("compared: {COMPARED_JOINS} joins, no difference in number, place, input, bytes written or any byte of the out buffer between");
+    println!("proved and ordinary; how often each number came, in all and for a record of the first input, the second and the added records");
+    for (number, count) in counts.iter().enumerate().filter(|(_, count)| count.iter().any(|&times| times > 0)) {
+        let [_, first, second, added] = count;
+        println!("  number {number:2}: {:6}{first:6}{second:6}{added:6}", count.iter().sum::<usize>());
+    }
+}
+
+/// The number and the input that both sides answer with so many bytes of room, or how they differ.
+fn same_join(given: &JoinInput, room: usize) -> Result<(u64, u64), String> {
+    let pattern: Vec<u8> = (0..room).map(|i| (i * 31 + given.first.len()) as u8).collect();
+    let [proved, ordinary] = JOIN_SIDES.map(|(side, join)| {
+        let mut out = pattern.clone();
+        let Joined { number, place, input, written } = join(&given.first, &given.second, &given.added, &mut out);
+        if written > room || out[written..] != pattern[written..] {
+            return Err(format!("join {number}: {side} changes bytes past the {written} written"));
+        }
+        Ok(([number, place as u64, input, written as u64], out))
+    });
+    let ((proved, proved_out), (ordinary, ordinary_out)) = (proved?, ordinary?);
+    if proved != ordinary {
+        return Err(format!("number, place, input and bytes: proved answers {proved:?}, ordinary {ordinary:?}"));
+    }
+    let [number, _, input, _] = proved;
+    if proved_out != ordinary_out {
+        return Err(format!("join {number}: proved and ordinary write different bytes"));
+    }
+    Ok((number, input))
+}
+
 fn fit_stack() {
     let mut random = inputs::Random::new(SEED);
     let workloads = inputs::workloads().into_iter().map(|workload| (workload.table, proved::ANSWER_BYTES));
     let inputs: Vec<_> = workloads.chain((0..COMPARED).map(|_| inputs::random_input(&mut random))).collect();
-    let count = inputs.len();
-    stack::answer_all(inputs);
-    println!("stack: {count} inputs answered by proved in a thread with a stack of {} bytes", proved::STACK_BYTES);
+    let joins: Vec<_> = (0..COMPARED_JOINS).map(|_| inputs::random_join(&mut random)).chain([inputs::join_workload()]).collect();
+    let (count, join_count) = (inputs.len(), joins.len());
+    stack::answer_all(inputs, joins);
+    println!(
+        "stack: {count} inputs answered and {join_count} joins made by proved in a thread with a stack of {} bytes",
+        proved::STACK_BYTES
+    );
 }
 
 /// What one side answers.
@@ -165,30 +222,102 @@ fn time_workload(workload: &inputs::Workload) {
         }
     };
     let mut answers = [[0; proved::ANSWER_BYTES]; SIDES.len()];
-    let mut take = |side: usize, calls| sample(SIDES[side].1, table, &mut answers[side], calls);
-    // first calls, to warm the caches and to see how long one takes
-    let rough: [f64; SIDES.len()] = std::array::from_fn(|side| take(side, 50).min(take(side, 50)));
-    let calls = (SAMPLE_NANOSECONDS / rough.into_iter().fold(f64::MAX, f64::min)).ceil() as usize;
-    let samples = (WORKLOAD_NANOSECONDS / (rough.iter().sum::<f64>() * calls as f64)).clamp(100.0, MOST_SAMPLES) as usize;
-    let mut times: [Vec<f64>; SIDES.len()] = std::array::from_fn(|_| Vec::with_capacity(samples));
-    for turn in 0..samples {
-        // each side is first by turns
-        for side in (0..SIDES.len()).map(|side| (turn + side) % SIDES.len()) {
-            times[side].push(take(side, calls));
-        }
-    }
-    let [(proved, proved_worst), (ordinary, ordinary_worst), (in_place, _)] = times.map(median_and_worst);
+    let measured = measure(|side, calls| {
+        let (answer, analyse) = (&mut answers[side], SIDES[side].1);
+        sample(calls, || {
+            black_box(analyse(black_box(table), black_box(&mut *answer)));
+        })
+    });
+    let Measured { calls, samples, times: [(proved, proved_worst), (ordinary, ordinary_worst), (in_place, _)] } = measured;
     print!("{:16}{number:>6}{calls:>7}{samples:>8}", workload.name);
     print!("{proved:>12.0}{proved_worst:>12.0}{ordinary:>12.0}{ordinary_worst:>12.0}");
     print!("{:>9.2}{:>9.2}", proved / ordinary, proved_worst / ordinary_worst);
     println!("{in_place:>12.0}{:>9.2}", proved / in_place);
 }
 
+fn time_join() {
+    let given = inputs::join_workload();
+    let JoinInput { first, second, added, room } = &given;
+    println!("\njoin of two tables of 32 ports and 128 connections each ({} and {} bytes), no added records", first.len(), second.len());
+    println!("into {room} bytes, and read alone; times in nanoseconds per call, sampled as above, all by turns");
+    for room in [*room, 0] {
+        if let Err(why) = same_join(&given, room) {
+            println!("{why}");
+            exit(1);
+        }
+    }
+    // a byte behind the last record is the fault of a table that is read to its end
+    let cut = [first, second].map(|half| [&half[..], &[0]].concat());
+    for half in &cut {
+        if !same_answer(half, proved::ANSWER_BYTES).is_ok_and(|agreed| agreed.number == 2) {
+            println!("a byte behind a table is not the number 2");
+            exit(1);
+        }
+    }
+    let mut out = [0; proved::TABLE_BYTES];
+    let mut answer = [0; proved::ANSWER_BYTES];
+    // proved and ordinary join, the same into a buffer of 0 bytes, and proved and ordinary read both tables
+    let measured = measure(|side, calls| {
+        let (join, analyse) = (JOIN_SIDES[side % 2].1, SIDES[side % 2].1);
+        let out = if side < 2 { &mut out[..*room] } else { &mut [][..] };
+        if side < 4 {
+            return sample(calls, || {
+                black_box(join(black_box(first), black_box(second), black_box(added), black_box(&mut *out)));
+            });
+        }
+        sample(calls, || {
+            for half in &cut {
+                black_box(analyse(black_box(half), black_box(&mut answer)));
+            }
+        })
+    });
+    let Measured { calls, samples, times: [join, ordinary_join, none, ordinary_none, read, ordinary_read] } = measured;
+    println!(
+        "{:16}{:>6}{:>7}{:>8}{:>12}{:>12}{:>12}{:>12}{:>9}{:>9}",
+        "", "number", "calls", "samples", "proved", "worst", "ordinary", "worst", "ratio", "worst"
+    );
+    for (name, number, proved, ordinary) in
+        [("join", 0, join, ordinary_join), ("join, no room", 16, none, ordinary_none), ("reading", 2, read, ordinary_read)]
+    {
+        print!("{name:16}{number:>6}{calls:>7}{samples:>8}");
+        print!("{:>12.0}{:>12.0}{:>12.0}{:>12.0}", proved.0, proved.1, ordinary.0, ordinary.1);
+        println!("{:>9.2}{:>9.2}", proved.0 / ordinary.0, proved.1 / ordinary.1);
+    }
+    println!("join, no room: the same join into a buffer of 0 bytes reads all inputs, works out the size and writes nothing");
+    println!("reading: the two tables read one after the other by the analysis, each with a byte behind it, which is refused with 2");
+    println!("ordinary: the records are checked, then copied; only the second table's ends are written anew");
+    println!("join / reading, of the medians: proved {:.2}, ordinary {:.2}", join.0 / read.0, ordinary_join.0 / ordinary_read.0);
+    println!("join / join, no room: proved {:.2}, ordinary {:.2}", join.0 / none.0, ordinary_join.0 / ordinary_none.0);
+}
+
+/// How many calls a sample has, how many samples were taken of each side, and each side's median and worst.
+struct Measured<const N: usize> {
+    calls: usize,
+    samples: usize,
+    times: [(f64, f64); N],
+}
+
+/// Takes samples of N sides by turns; `take` answers the nanoseconds per call of so many calls of a side.
+fn measure<const N: usize>(mut take: impl FnMut(usize, usize) -> f64) -> Measured<N> {
+    // first calls, to warm the caches and to see how long one takes
+    let rough: [f64; N] = std::array::from_fn(|side| take(side, 50).min(take(side, 50)));
+    let calls = (SAMPLE_NANOSECONDS / rough.into_iter().fold(f64::MAX, f64::min)).ceil() as usize;
+    let samples = (WORKLOAD_NANOSECONDS / (rough.iter().sum::<f64>() * calls as f64)).clamp(100.0, MOST_SAMPLES) as usize;
+    let mut times: [Vec<f64>; N] = std::array::from_fn(|_| Vec::with_capacity(samples));
+    for turn in 0..samples {
+        // each side is first by turns
+        for side in (0..N).map(|side| (turn + side) % N) {
+            times[side].push(take(side, calls));
+        }
+    }
+    Measured { calls, samples, times: times.map(median_and_worst) }
+}
+
 /// Nanoseconds per call.
-fn sample(analyse: Analyse, table: &[u8], answer: &mut [u8], calls: usize) -> f64 {
+fn sample(calls: usize, mut call: impl FnMut()) -> f64 {
     let begin = Instant::now();
     for _ in 0..calls {
-        black_box(analyse(black_box(table), black_box(&mut *answer)));
+        call();
     }
     begin.elapsed().as_nanos() as f64 / calls as f64
 }

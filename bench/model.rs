@@ -94,10 +94,49 @@ impl Components {
     }
 }
 
-/// The number of a table's first fault, and the byte at which the faulty record begins; 12 has place 0.
+/// The number of an input's first fault, and the byte at which the faulty record begins; 12 has place 0.
 pub struct Fault {
     pub number: u64,
     pub place: usize,
+}
+
+/// Takes the records that are read, and counts them.
+pub trait Taker {
+    fn ports(&self) -> usize;
+    fn links(&self) -> usize;
+    fn take_port(&mut self, port: Port);
+    fn take_link(&mut self, link: Link);
+}
+
+impl Taker for Model {
+    fn ports(&self) -> usize {
+        self.ports.len()
+    }
+
+    fn links(&self) -> usize {
+        self.links.len()
+    }
+
+    fn take_port(&mut self, port: Port) {
+        self.ports.push(port);
+    }
+
+    fn take_link(&mut self, link: Link) {
+        self.links.push(link);
+    }
+}
+
+/// How an input stands behind what was taken before it.
+#[derive(Clone, Copy)]
+pub struct Behind {
+    /// its from and to count from this port on
+    pub port: usize,
+    /// ports come only while there are so many links; none come where there is no number
+    pub links: Option<usize>,
+}
+
+impl Behind {
+    pub const NOTHING: Behind = Behind { port: 0, links: Some(0) };
 }
 
 /// The model of a table, or its first fault.
@@ -106,23 +145,29 @@ pub fn read(table: &[u8]) -> Result<Model, Fault> {
     let ports = Vec::with_capacity(MOST_PORTS.min(table.len() / 8));
     let links = Vec::with_capacity(MOST_LINKS.min(table.len() / 16));
     let mut model = Model { ports, links };
-    let mut at = 0;
-    while at < table.len() {
-        match read_record(&table[at..], &mut model) {
-            Ok(size) => at += size,
-            Err(number) => return Err(Fault { number, place: at }),
-        }
-    }
+    read_on(table, Behind::NOTHING, &mut model)?;
     if model.ports.is_empty() {
         return Err(Fault { number: 12, place: 0 });
     }
     Ok(model)
 }
 
-/// Adds the first record to the model. Answers its size in bytes, or the number of its fault.
+/// Takes the records of an input, or answers its first fault.
 #[inline(always)]
-fn read_record(rest: &[u8], model: &mut Model) -> Result<usize, u64> {
-    let Model { ports, links } = model;
+pub fn read_on(input: &[u8], behind: Behind, taker: &mut impl Taker) -> Result<(), Fault> {
+    let mut at = 0;
+    while at < input.len() {
+        match read_record(&input[at..], behind, taker) {
+            Ok(size) => at += size,
+            Err(number) => return Err(Fault { number, place: at }),
+        }
+    }
+    Ok(())
+}
+
+/// Takes the first record. Answers its size in bytes, or the number of its fault.
+#[inline(always)]
+fn read_record(rest: &[u8], behind: Behind, taker: &mut impl Taker) -> Result<usize, u64> {
     if rest.len() < 2 {
         return Err(2);
     }
@@ -134,32 +179,32 @@ fn read_record(rest: &[u8], model: &mut Model) -> Result<usize, u64> {
     match u16_at(record, 0) {
         1 => {
             let record: &[u8; 6] = record.try_into().map_err(|_| 4u64)?;
-            if !links.is_empty() {
+            if behind.links != Some(taker.links()) {
                 return Err(5);
             }
-            if ports.len() == MOST_PORTS {
+            if taker.ports() == MOST_PORTS {
                 return Err(6);
             }
-            ports.push(read_port(record)?);
+            taker.take_port(read_port(record)?);
         }
         2 => {
             let record: &[u8; 18] = record.try_into().map_err(|_| 4u64)?;
-            if links.len() == MOST_LINKS {
+            if taker.links() == MOST_LINKS {
                 return Err(7);
             }
-            let mut link = read_link(record, ports.len(), false)?;
+            let mut link = read_link(record, taker.ports() - behind.port, false)?;
             link.events = i32_at(record, 14);
             if !(-MOST_EVENTS..=MOST_EVENTS).contains(&link.events) {
                 return Err(11);
             }
-            links.push(link);
+            taker.take_link(link);
         }
         3 => {
             let record: &[u8; 14] = record.try_into().map_err(|_| 4u64)?;
-            if links.len() == MOST_LINKS {
+            if taker.links() == MOST_LINKS {
                 return Err(7);
             }
-            links.push(read_link(record, ports.len(), true)?);
+            taker.take_link(read_link(record, taker.ports() - behind.port, true)?);
         }
         _ => return Err(3),
     }
@@ -196,7 +241,7 @@ fn is_part(x: u16) -> bool {
     (1..=MOST_PART).contains(&x)
 }
 
-fn u16_at(bytes: &[u8], at: usize) -> u16 {
+pub fn u16_at(bytes: &[u8], at: usize) -> u16 {
     u16::from_le_bytes([bytes[at], bytes[at + 1]])
 }
 

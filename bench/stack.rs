@@ -1,13 +1,17 @@
-//! The proved analysis in a thread whose stack has exactly the bytes that the bindings state.
+//! The proved analysis and join in a thread whose stack has exactly the bytes that the bindings state.
 
+use crate::inputs::JoinInput;
 use crate::proved;
 use std::thread::Builder;
 
-/// Answers all inputs, each a table and the length of its answer buffer. A stack that is too small ends the program.
-pub fn answer_all(inputs: Vec<(Vec<u8>, usize)>) {
+/// Answers all inputs, each a table and the length of its answer buffer, and joins all. A stack that is too small ends the program.
+pub fn answer_all(inputs: Vec<(Vec<u8>, usize)>, joins: Vec<JoinInput>) {
     let all = move || {
         for (table, room) in &inputs {
             proved::analyse(table, &mut vec![0; *room]);
+        }
+        for JoinInput { first, second, added, room } in &joins {
+            proved::join(first, second, added, &mut vec![0; *room]);
         }
     };
     Builder::new().stack_size(proved::STACK_BYTES).spawn(all).unwrap().join().unwrap();

@@ -13,9 +13,12 @@ extern "C" {
 /* An answer buffer of this many bytes suffices for every table; a shorter one is refused with number 1. */
 #define VUNDAYRE_ANSWER_BYTES 5120
 
-/* A thread with a stack of this many bytes can analyse every table (its frames take 90,448 of them and it does not recurse; bench/run tries it
-   out; it is not proved). */
+/* A thread with a stack of this many bytes can analyse every table and join any two (the frames of the analysis take 90,432 of them, those of
+   the join 9,968, and neither recurses; bench/run tries it out; it is not proved). */
 #define VUNDAYRE_STACK_BYTES 98304
+
+/* A buffer of this many bytes suffices for every joined table; a shorter one may be refused with number 16. */
+#define VUNDAYRE_TABLE_BYTES 5632
 
 struct vundayre_outcome {
     /* Document 01's number: 0 is consistent, 1 to 15 are refusals. */
@@ -34,6 +37,28 @@ struct vundayre_outcome {
  * the two buffers may not overlap. It keeps nothing between calls and may be called from several threads.
  */
 struct vundayre_outcome vundayre_analyse(const uint8_t *table, size_t table_bytes, uint8_t *answer, size_t answer_bytes);
+
+struct vundayre_joined {
+    /* 0 is joined; 2 to 11, document 01's numbers, and 16, the out buffer is shorter than the joined table, are refusals. */
+    uint64_t number;
+    /* Of 2 to 11 the byte at which the faulty record begins, counted from 0 within its own input; of every other number 0. */
+    size_t place;
+    /* Of 2 to 11 the input of the faulty record: 1 the first, 2 the second, 3 the added records; of every other number 0. */
+    uint64_t input;
+    /* How many bytes of the out buffer were written, from its first byte on. */
+    size_t written;
+};
+
+/*
+ * Joins the first table, the second and the added connections and buffers, any bytes at all, to one table. The second table's ports are
+ * numbered behind the first's; the added records go by the numbers of the joined table.
+ *
+ * A refusal writes nothing; 0 writes the joined table. Bytes of the out buffer past the written ones keep what they held. No pointer may be
+ * null, also where its length is 0. The inputs are only read and may be one and the same memory; the out buffer may overlap none of them. It
+ * keeps nothing between calls and may be called from several threads.
+ */
+struct vundayre_joined vundayre_join(const uint8_t *first, size_t first_bytes, const uint8_t *second, size_t second_bytes, const uint8_t *added,
+                                     size_t added_bytes, uint8_t *out, size_t out_bytes);
 
 #ifdef __cplusplus
 }

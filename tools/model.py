@@ -44,3 +44,18 @@ def link_bytes(link):
 
 def table_bytes(model):
     return b''.join(map(port_bytes, model.ports)) + b''.join(map(link_bytes, model.links))
+
+
+def port(num=1, den=1):
+    """A port's record."""
+    return port_bytes(Port(num, den))
+
+
+def connection(start=0, end=0, num=1, den=1, ticks=0, events=0):
+    """A connection's record."""
+    return link_bytes(Link(start, end, num, den, ticks, events))
+
+
+def buffer(start=0, end=0, num=1, den=1, ticks=0):
+    """A buffer's record."""
+    return link_bytes(Link(start, end, num, den, ticks, None))

@@ -1,15 +1,24 @@
-"""The first fault of a table, apart from the proved code: its number, 2 to 12 of document 01, and its place (change request F-1)."""
+"""The first fault of an input, apart from the proved code: its number, 2 to 12 of document 01, and its place (change request F-1)."""
 import struct
+from typing import NamedTuple
 
 from table_text import MOST_EVENTS, MOST_LINKS, MOST_PART, MOST_PORTS, MOST_TICKS, RECORDS
+
+
+class Before(NamedTuple):
+    """What stands before a record: ports and links, for the limits, how many ports from and to may name, and whether a port may come."""
+    ports: int = 0
+    links: int = 0
+    named: int = 0
+    port_may_come: bool = True
 
 
 def are_parts(values):
     return all(1 <= value <= MOST_PART for value in values)
 
 
-def record_fault(rest, ports, links):
-    """(number, length) of the record at the front of `rest`, behind so many ports and links; number 0 where it has no fault."""
+def record_fault(rest, before):
+    """(number, length) of the record at the front of `rest`; number 0 where it has no fault."""
     length = int.from_bytes(rest[:2], 'little')
     if len(rest) < 2 or not 2 <= length <= len(rest) - 2:
         return 2, length
@@ -20,24 +29,33 @@ def record_fault(rest, ports, links):
         return 4, length
     values = struct.unpack_from(RECORDS[kind, length][0], rest, 4)
     if kind == 1:
-        tests = [(5, links > 0), (6, ports == MOST_PORTS), (8, not are_parts(values))]
+        tests = [(5, not before.port_may_come), (6, before.ports >= MOST_PORTS), (8, not are_parts(values))]
     else:
         delays = zip(values[4:], (MOST_TICKS, MOST_EVENTS))
-        tests = [(7, links == MOST_LINKS), (9, max(values[:2]) >= ports), (10, not are_parts(values[2:4])),
+        tests = [(7, before.links >= MOST_LINKS), (9, max(values[:2]) >= before.named), (10, not are_parts(values[2:4])),
                  (11, any(abs(delay) > most for delay, most in delays))]
     return next((number for number, faulty in tests if faulty), 0), length
 
 
+def read_run(given, before):
+    """(number, place, ports, links) of an input: its first fault, 2 to 11, or (0, 0), and the records in front of it as bytes."""
+    at, ports, links = 0, [], []
+    while at < len(given):
+        number, length = record_fault(given[at:], before)
+        if number:
+            return number, at, ports, links
+        record = given[at:at + 2 + length]
+        if record[2] == 1:
+            ports.append(record)
+            before = before._replace(ports=before.ports + 1, named=before.named + 1)
+        else:
+            links.append(record)
+            before = before._replace(links=before.links + 1, port_may_come=False)
+        at += len(record)
+    return 0, 0, ports, links
+
+
 def first_fault(table):
     """(number, place) of a table's first fault; (0, 0) where it has none."""
-    at = ports = links = 0
-    while at < len(table):
-        number, length = record_fault(table[at:], ports, links)
-        if number:
-            return number, at
-        if table[at + 2] == 1:
-            ports += 1
-        else:
-            links += 1
-        at += 2 + length
-    return (0, 0) if ports else (12, 0)
+    number, place, ports, _ = read_run(table, Before())
+    return (number, place) if number or ports else (12, 0)

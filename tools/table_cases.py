@@ -7,20 +7,8 @@ import os
 import struct
 import sys
 
-from model import Link, Port, link_bytes, port_bytes, record
+from model import buffer, connection, port, record
 from reader import first_fault
-
-
-def port(num=1, den=1):
-    return port_bytes(Port(num, den))
-
-
-def connection(start=0, end=0, num=1, den=1, ticks=0, events=0):
-    return link_bytes(Link(start, end, num, den, ticks, events))
-
-
-def buffer(start=0, end=0, num=1, den=1, ticks=0):
-    return link_bytes(Link(start, end, num, den, ticks, None))
 
 
 full_ports = port() * 64

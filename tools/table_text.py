@@ -2,6 +2,7 @@
 """Tables as text, one line for each port, connection or buffer, and back.
 
     table_text.py encode [TEXT] > TABLE
+    table_text.py encode --added [TEXT] > RECORDS    the records that a join adds
     table_text.py decode [TABLE] > TEXT
     table_text.py decode --at BYTE [TABLE]           the line, with its number, of the record that begins at that byte
 
@@ -10,6 +11,7 @@
     buffer 1 0 ratio 1/1 ticks 4                     from, to, ratio, constant delay
 
 Without a file, standard input is read. Ports are numbered from 0 in order; connections and buffers share one numbering from 0.
+Added records are connections and buffers only, or none; from and to are numbered as in the joined table, so they are held to 0 to 63.
 A text is UTF-8. A line ends at \\n or \\r\\n; spaces and tabs part its words; blank lines and what follows # are left out.
 On a fault one line on standard error names the line, or the byte where the faulty record begins, and the reason; nothing else is
 written, and the status is 2."""
@@ -21,7 +23,7 @@ from model import Link, Model, Port, table_bytes
 
 MOST_PORTS, MOST_LINKS, MOST_PART = 64, 256, 1_000
 MOST_TICKS, MOST_EVENTS = 10_000_000, 1_000
-USAGE = 'usage: table_text.py encode [TEXT] > TABLE, or table_text.py decode [--at BYTE] [TABLE] > TEXT'
+USAGE = 'usage: table_text.py encode [--added] [TEXT] > TABLE, or table_text.py decode [--at BYTE] [TABLE] > TEXT'
 # More than any number of a table needs, and few enough for Python to read.
 MOST_DIGITS = 10
 
@@ -57,8 +59,8 @@ def within(what, value, least, most):
         raise Fault(f'{what} {value} is not from {least} to {most}')
 
 
-def add_line(model, line):
-    """Adds what one line says. The reasons are those of the numbers 5 to 11 of document 01, in their order."""
+def add_line(model, line, added):
+    """Adds what one line says, of a table or of added records. The reasons are those of the numbers 5 to 11 of document 01, in their order."""
     kind = line.split(' ')[0]
     if kind not in SHAPES:
         raise Fault(f'{kind[:20]!a} is not port, connection or buffer')
@@ -68,6 +70,8 @@ def add_line(model, line):
         raise Fault(f'this is not {shape}')
     values = [number(word) for word in match.groups()]
     if kind == 'port':
+        if added:
+            raise Fault('a port among added records')
         if model.links:
             raise Fault('a port follows a connection or buffer')
         if len(model.ports) == MOST_PORTS:
@@ -79,7 +83,7 @@ def add_line(model, line):
     if len(model.links) == MOST_LINKS:
         raise Fault(f'more than {MOST_LINKS} connections and buffers')
     for port in values[:2]:
-        if not 0 <= port < len(model.ports):
+        if not 0 <= port < (MOST_PORTS if added else len(model.ports)):
             raise Fault(f'there is no port {port}')
     for part in values[2:4]:
         within('ratio part', part, 1, MOST_PART)
@@ -98,18 +102,18 @@ def words_of(line):
     return re.sub('[ \t]+', ' ', said).strip(' ')
 
 
-def read_text(text):
-    """The model of a text's bytes; a fault carries the line's number."""
+def read_text(text, added=False):
+    """The model of a text's bytes, without ports where it is one of added records; a fault carries the line's number."""
     model = Model()
     lines = text.replace(b'\r\n', b'\n').split(b'\n')
     for at, line in enumerate(lines, 1):
         try:
             words = words_of(line)
             if words:
-                add_line(model, words)
+                add_line(model, words, added)
         except Fault as fault:
             raise Fault(f'line {at}: {fault}') from None
-    if not model.ports:
+    if not model.ports and not added:
         raise Fault(f'line {len(lines)}: the text ends without a port')
     return model
 
@@ -124,6 +128,10 @@ def table_lines(table):
         numbers, line = RECORDS[kind, length]
         yield at, line.format(*struct.unpack_from(numbers, table, at + 4))
         at += 2 + length
+
+
+def text_of(table):
+    return ''.join(line for _, line in table_lines(table)).encode()
 
 
 def line_at(table, place):
@@ -154,32 +162,32 @@ def write(data):
         raise Fault(f'not written: {error.strerror}') from None
 
 
-def converted(command, place, data):
-    """What is written of the data; place is a byte, or None."""
+def converted(command, option, data):
+    """What is written of the data; the option is 'added', the byte behind --at, or None."""
     if command == 'encode':
-        return table_bytes(read_text(data))
-    if place is None:
-        return ''.join(line for _, line in table_lines(data)).encode()
-    return line_at(data, place).encode()
+        return table_bytes(read_text(data, option == 'added'))
+    return text_of(data) if option is None else line_at(data, option).encode()
 
 
 def arguments(words):
-    """The command, the byte behind --at, or None, and the file, or standard input."""
+    """The command, its option, and the file, or standard input."""
     command, *rest = words or ['']
-    place = None
-    if command == 'decode' and rest[:1] == ['--at']:
+    option = None
+    if command == 'encode' and rest[:1] == ['--added']:
+        option, rest = 'added', rest[1:]
+    elif command == 'decode' and rest[:1] == ['--at']:
         if len(rest) < 2 or not re.fullmatch('[0-9]{1,10}', rest[1]):
             raise Fault(USAGE)
-        place, rest = int(rest[1]), rest[2:]
+        option, rest = int(rest[1]), rest[2:]
     if command not in ('encode', 'decode') or len(rest) > 1:
         raise Fault(USAGE)
-    return command, place, rest[0] if rest else 0
+    return command, option, rest[0] if rest else 0
 
 
 def main(words):
     try:
-        command, place, source = arguments(words)
-        write(converted(command, place, read(source)))
+        command, option, source = arguments(words)
+        write(converted(command, option, read(source)))
     except Fault as fault:
         print(fault, file=sys.stderr)
         return 2

@@ -98,9 +98,33 @@ FAULTY_TEXTS = [
       for end in '\x0b\x0c\x1c\x1d\x1e\x85\u2028\u2029'],
 ]
 
+# Texts of added records; a port line and an end above 63 are faults of theirs only.
+GOOD_ADDED = [
+    (b'', b''),
+    (b'# nothing\n\n', b''),
+    (CONNECTION, link_bytes(Link(0, 0))),
+    (b'connection 63 0 ratio 2/4 ticks 3 events -1\n' b'buffer 0 63 ratio 1/1 ticks -4\n',
+     link_bytes(Link(63, 0, 2, 4, 3, -1)) + link_bytes(Link(0, 63, ticks=-4, events=None))),
+    (BUFFER * 256, link_bytes(Link(0, 0, events=None)) * 256),
+]
+
+FAULTY_ADDED = [
+    (PORT, 'line 1: a port among added records'),
+    (CONNECTION + PORT, 'line 2: a port among added records'),
+    (b'port 0/1\n', 'line 1: a port among added records'),
+    (b'port 1\n', f'line 1: {PORT_SHAPE}'),
+    (b'prot 1/1\n', "line 1: 'prot' is not port, connection or buffer"),
+    (b'connection 64 0 ratio 1/1 ticks 0 events 0\n', 'line 1: there is no port 64'),
+    (BUFFER + b'buffer 0 64 ratio 1/1 ticks 0\n', 'line 2: there is no port 64'),
+    (b'buffer 0 -1 ratio 1/1 ticks 0\n', 'line 1: there is no port -1'),
+    (b'buffer 63 63 ratio 1/0 ticks 0\n', 'line 1: ratio part 0 is not from 1 to 1000'),
+    (CONNECTION * 256 + BUFFER, 'line 257: more than 256 connections and buffers'),
+]
+
 GOOD_TABLES = [
     (WORKED_TABLE, WORKED),
     (b'', b''),
+    (link_bytes(Link(63, 0)), b'connection 63 0 ratio 1/1 ticks 0 events 0\n'),
     # faults of its numbers and of its order stay for the text to show
     (port_bytes(Port(0, 65535)), b'port 0/65535\n'),
     (ONE * 65, PORT * 65),
@@ -141,7 +165,7 @@ FAULTY_PLACES = [
     (ONE + record(4, b'1234'), 8, 'byte 8: no port, connection or buffer begins here'),
 ]
 
-USAGE = 'usage: table_text.py encode [TEXT] > TABLE, or table_text.py decode [--at BYTE] [TABLE] > TEXT'
+USAGE = 'usage: table_text.py encode [--added] [TEXT] > TABLE, or table_text.py decode [--at BYTE] [TABLE] > TEXT'
 
 
 def run(words, **streams):
@@ -157,17 +181,18 @@ def expected(output, message):
 
 def cases():
     """What is tried, what came of it, and what should have come."""
-    for word, good, faulty in (('encode', GOOD_TEXTS, FAULTY_TEXTS), ('decode', GOOD_TABLES, FAULTY_TABLES)):
+    for words, good, faulty in ((['encode'], GOOD_TEXTS, FAULTY_TEXTS), (['encode', '--added'], GOOD_ADDED, FAULTY_ADDED),
+                                (['decode'], GOOD_TABLES, FAULTY_TABLES)):
         for data, output in good:
-            yield f'{word} {data!r}', run([word], input=data), expected(output, '')
+            yield f'{" ".join(words)} {data!r}', run(words, input=data), expected(output, '')
         for data, message in faulty:
-            yield f'{word} {data!r}', run([word], input=data), expected(b'', message)
+            yield f'{" ".join(words)} {data!r}', run(words, input=data), expected(b'', message)
     for data, place, output in PLACES:
         yield f'decode --at {place} {data!r}', run(['decode', '--at', str(place)], input=data), expected(output, '')
     for data, place, message in FAULTY_PLACES:
         yield f'decode --at {place} {data!r}', run(['decode', '--at', str(place)], input=data), expected(b'', message)
     for words in ([], ['code'], ['encode', 'a', 'b'], ['--help'], ['decode', '--at'], ['decode', '--at', 'x'], ['decode', '--at', '-1'],
-                  ['decode', '--at', '0', 'a', 'b'], ['encode', '--at', '0']):
+                  ['decode', '--at', '0', 'a', 'b'], ['encode', '--at', '0'], ['encode', '--added', 'a', 'b']):
         yield ' '.join(words), run(words, input=PORT), expected(b'', USAGE)
     for word in ('encode', 'decode'):
         data = {'encode': PORT, 'decode': ONE}[word]

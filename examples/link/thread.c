@@ -1,11 +1,10 @@
 /* Analyses the table on standard input in a thread whose stack has exactly the bytes that the header states. */
 #include <pthread.h>
-#include <stdio.h>
 
 #include "../../bindings/vundayre.h"
+#include "whole.h"
 
-/* One byte more than is analysed, so that a longer input shows. */
-static uint8_t table[65537], answer[VUNDAYRE_ANSWER_BYTES];
+static uint8_t table[ROOM_BYTES], answer[VUNDAYRE_ANSWER_BYTES];
 static size_t table_bytes;
 
 static void *analyse(void *outcome) {
@@ -17,11 +16,7 @@ int main(void) {
     struct vundayre_outcome r;
     pthread_attr_t attributes;
     pthread_t thread;
-    table_bytes = fread(table, 1, sizeof table, stdin);
-    if (ferror(stdin) || table_bytes == sizeof table) {
-        fputs("the table was not read, or is too long\n", stderr);
-        return 2;
-    }
+    table_bytes = read_whole(stdin, table);
     if (pthread_attr_init(&attributes) != 0 || pthread_attr_setstacksize(&attributes, VUNDAYRE_STACK_BYTES) != 0 ||
         pthread_create(&thread, &attributes, analyse, &r) != 0 || pthread_join(thread, NULL) != 0) {
         fprintf(stderr, "there is no thread with a stack of %d bytes here\n", VUNDAYRE_STACK_BYTES);

@@ -4,11 +4,10 @@ use mathlib.Core.Path.{_≡_, refl, sym, ap, _∙_}
 use mathlib.Core.Logic.{_≢_, _⊎_, inl, inr}
 use mathlib.Core.List.{List, []}
 use native.Mathlib.Omega.{arith}
-use lib.ListN.{length, drop}
+use lib.ListN.{length}
 use borrow.Author.Tests.{lt-ltb, le-ltb}
-use lib.Seq.{drop-at}
 use Rattle.specification.specs.Bytes.{Written}
-use Rattle.records.specs.WrittenLaws.{written-length}
+use Rattle.records.specs.WrittenLaws.{written-length, written-rest, written-nothing}
 use Rattle.specification.specs.Reading.{FaultPlace, start, readTable}
 use Rattle.table.specs.FaultLaws.{fault-number, table-place, table-no-place}
 use Rattle.table.specs.WellFormed.{WellFormed}
@@ -22,7 +21,7 @@ use Rattle.demands.specs.OneAnswer.{one-answer}
 use Rattle.demands.specs.Demand2Laws.{demand-2}
 use Rattle.demands.specs.Demand3Laws.{demand-3}
 use Rattle.specification.specs.Analysed.{Fits, Analysed}
-use Rattle.specification.specs.Demanded.{ConsistentCall, DisagreeingCall, BlockedCall, NothingWritten, WellFormedCall, Demanded}
+use Rattle.specification.specs.Demanded.{ConsistentCall, DisagreeingCall, BlockedCall, WellFormedCall, Demanded}
 use Rattle.specification.specs.declared.Outcome.{Outcome}
 
 module _ {s before after : List ℕ} {r : Outcome} (h : Analysed s before after r) where
@@ -80,9 +79,6 @@ module _ {s before after : List ℕ} {r : Outcome} (h : Analysed s before after 
   no-records (blocked floor block) f g k = absurd (k refl)
   no-records (consistent timing) f g k = absurd (f refl)
 
-  nothing-written : {xs : List ℕ} → xs ≡ [] → Written xs before after (r .written) → NothingWritten before after r
-  nothing-written e w = record { unchanged = rw e at (w .contents); none = rw e at (w .counted) }
-
   small-records : {x : Answer} → Case x → length (records t x) ≤ leastRoom
   small-records (short l) = omega arith
   small-records (faulty l f) = omega arith
@@ -92,9 +88,6 @@ module _ {s before after : List ℕ} {r : Outcome} (h : Analysed s before after 
   fit-records (short l) = omega arith
   fit-records (faulty l f) = omega arith
   fit-records {x} (formed l z g i) = omega (arith, fits-room {x = x} g i .fits)
-
-  rest-kept : {xs : List ℕ} → Written xs before after (r .written) → drop (r .written) after ≡ drop (r .written) before
-  rest-kept {xs} w = rw (w .counted, w .contents, drop-at xs (drop (length xs) before) (length xs) refl)
 
   -- ---- demands 2 and 3
   solved-call : {x : Answer} → Case x → Fits t x → Written (records t x) before after (r .written) → number x ≡ 0 → ConsistentCall t before after r
@@ -187,10 +180,10 @@ demanded {s} {before} {after} {r} h =
       listed = λ g. rw n (listed-number h c g);
       place = λ l m. rw (n, h .place-is) (place-in h c (omega (arith, n, l)) (omega (arith, n, m)));
       no-place = λ k. h .place-is ∙ no-place-in h c (rw n at k);
-      nothing = λ f g k. nothing-written h (no-records h (h .answer) (λ e. f (n ∙ e)) (λ e. g (n ∙ e)) (λ e. k (n ∙ e))) w;
+      nothing = λ f g k. written-nothing (no-records h (h .answer) (λ e. f (n ∙ e)) (λ e. g (n ∙ e)) (λ e. k (n ∙ e))) w;
       room = omega (arith, w .counted, small-records h c);
       same-length = written-length w (fit-records h c);
-      rest = rest-kept h w;
+      rest = written-rest w;
       one-number = λ after′ r′ h′. (same-number h h′, h′ .place-is ∙ sym (h .place-is));
       one-answer = λ after′ r′ h′. same-bytes h h′;
       solved = λ e. solved-call h c (h .fits) w (sym n ∙ e);

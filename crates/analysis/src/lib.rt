@@ -46,7 +46,7 @@ pub fn analyse(s: &[u8], answer: &mut [u8]) -> Outcome
         let mut links = [0u32; 288];
         return read_in(s, &mut ports, &mut links, answer);
     }
-    let mut links = link_numbers();
+    let mut links = links::room();
     read_in(s, &mut ports, &mut links, answer)
 }
 
@@ -268,13 +268,6 @@ fn time_large(
         &mut work,
         answer,
     )
-}
-
-// Nine numbers for each of 256 links.
-fn link_numbers() -> [u32; 2304]
-    ensures { λ r. ⌜ 2304 ≡ length r ⌝ }
-{
-    [0; 2304]
 }
 
 // A row of 64 starts for the zeros and for each of 64 rounds, and four numbers for each of 256 edges.

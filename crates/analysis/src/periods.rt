@@ -3,7 +3,7 @@ ghost use Prim.Native.Nat.{_+_, _*_, _≤_};
 ghost use mathlib.Core.Path.{_≡_};
 ghost use lib.ListN.{length, getD};
 ghost use Rattle.specification.specs.Answers.{leastRoom};
-ghost use Rattle.table.specs.Slices.{portsOf, linksOf, tableOf};
+ghost use Rattle.table.specs.Slices.{tableOf};
 ghost use Rattle.analysis.specs.Decided.{Decided};
 ghost use Rattle.analysis.specs.Timed.{Members, Kept, OneTimed, ComponentSlices, TableSlices};
 use fraction::Fraction;

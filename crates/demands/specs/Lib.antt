@@ -6,6 +6,8 @@ pub mod Demands
 pub mod Room
 pub mod SamePeriod
 pub mod Demand2Laws
+pub mod Reordered
+pub mod OrderLaws
 pub mod OneAnswer
 pub mod BoundedChains
 pub mod TightPeriod

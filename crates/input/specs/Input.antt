@@ -1,11 +1,11 @@
 -- What a read of an input comes to.
 use Prim.Native.Nat.{ℕ, _+_, _≤_, _<_, min}
 use mathlib.Core.Path.{_≡_, sym}
-use mathlib.Core.Bool.{true, false, true≢false}
+use mathlib.Core.Bool.{Bool, true, false, true≢false, cond}
 use native.Mathlib.Omega.{arith}
 use borrow.Author.Tests.{ltb-true}
 use lib.IntN.{ℤ, pos, negsuc}
-use lib.Dec.{ltb}
+use lib.Dec.{ltb, leb}
 use Rattle.input.specs.declared.Input.{Input}
 
 -- by the result of the read: so many bytes more, the end where there are none, and a failure where it is negative
@@ -28,3 +28,11 @@ read-onward {count} {rest} {most} {got} h room = rw (h .is) (by got)
     by : (z : ℤ) → Onward count most (afterRead count z rest)
     by (pos n) = record { least = omega arith; within = omega arith; further = λ e. omega (arith, ltb-true 0 (min n rest) e) }
     by (negsuc n) = record { least = omega arith; within = omega arith; further = λ e. absurd (true≢false (sym e)) }
+
+-- the most bytes of an input that are taken
+abbrev pub mostBytes : ℕ
+mostBytes = 65536
+
+-- an input of so many bytes was read whole: no read failed, and it is not longer than is taken
+unfoldable pub readWhole : (failed : Bool) (count : ℕ) → Bool
+readWhole failed count = cond failed false (leb count mostBytes)

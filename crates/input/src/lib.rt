@@ -2,7 +2,7 @@
 ghost use mathlib.Core.Path.{_≡_};
 ghost use Prim.Native.Nat.{_+_, _^_, _≤_, _<_};
 ghost use lib.ListN.{length};
-ghost use Rattle.input.specs.Input.{AfterRead, Onward};
+ghost use Rattle.input.specs.Input.{readWhole, AfterRead, Onward};
 
 // How many bytes stand at the front of the buffer, whether more may come, and whether a read failed.
 pub struct Input {
@@ -58,4 +58,59 @@ pub fn fill(fd: i32, buf: &mut [u8]) -> Input
         input = read_once(fd, buf, input.count);
     }
     input
+}
+
+// No file, which counts as a failed read.
+fn unread() -> Input
+    ensures { λ r. ⌜ r .count ≡ 0 ⌝ }
+{
+    Input {
+        count: 0,
+        more: false,
+        failed: true,
+    }
+}
+
+// Reads the file of this name. One that cannot be opened counts as a failed read.
+pub fn fill_named(name: &[u8], buf: &mut [u8]) -> Input
+    ensures { λ r. ⌜ r .count ≤ length (now (buf .exit)) ⌝ }
+    ensures { λ _. ⌜ length (now (buf .exit)) ≡ length (now (buf .entry)) ⌝ }
+{
+    let fd = os::open_read(name);
+    if fd < 0 {
+        return unread();
+    }
+    let read = fill(fd, buf);
+    libc::close(fd);
+    read
+}
+
+// Reads the file that argument k names. A name that is missing or too long counts as a failed read.
+pub fn fill_argument(k: usize, buf: &mut [u8]) -> Input
+    ensures { λ r. ⌜ r .count ≤ length (now (buf .exit)) ⌝ }
+    ensures { λ _. ⌜ length (now (buf .exit)) ≡ length (now (buf .entry)) ⌝ }
+{
+    let mut name = io::buffer();
+    let n = os::arg(k, &mut name);
+    if os::errno() != 0 {
+        return unread();
+    }
+    fill_named(&name[..n], buf)
+}
+
+// Room for an input, with a byte more than is taken, so that a longer input shows.
+pub fn room() -> [u8; 65537]
+    ensures { λ r. ⌜ 65537 ≡ length r ⌝ }
+{
+    [0; 65537]
+}
+
+// Whether the input was read whole: no read failed, and it is not longer than is taken.
+pub fn whole(read: Input) -> bool
+    ensures { λ r. ⌜ r ≡ readWhole (read .failed) (read .count) ⌝ }
+{
+    if read.failed {
+        return false;
+    }
+    read.count <= 65536
 }

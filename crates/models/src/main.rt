@@ -7,7 +7,7 @@ ghost use lib.ListN.{length};
 const MOST: usize = 100000;
 
 fn main() {
-    let mut space = report::input_room();
+    let mut space = input::room();
     let mut text = io::large_buffer();
     let space_slice: &mut [u8] = &mut space;
     let text_slice: &mut [u8] = &mut text;

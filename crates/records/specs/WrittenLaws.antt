@@ -1,11 +1,11 @@
 -- Laws of what is written to the front of a buffer, and of stores right behind one another.
 use Prim.Native.Nat.{ℕ, suc, _+_, _-_, _≤_}
-use mathlib.Core.Path.{_≡_, sym, ap, _∙_}
+use mathlib.Core.Path.{_≡_, refl, sym, ap, _∙_}
 use mathlib.Core.List.{List, [], _∷_, _++_, append-assoc, append-nil}
 use native.Mathlib.Omega.{arith}
 use lib.ListN.{length, take, drop, length-append, length-drop, drop-of-length-le}
-use lib.Seq.{sets, take-all, take-at, drop-at, drop-drop}
-use Rattle.specification.specs.Bytes.{Written}
+use lib.Seq.{sets, sets-eq, take-all, take-at, drop-at, drop-drop}
+use Rattle.specification.specs.Bytes.{Written, NothingWritten}
 
 -- two stores, the second right behind the first, are one of both lists
 pub sets-append : (l : List ℕ) (at : ℕ) (xs ys : List ℕ) → sets (sets l at xs) (at + length xs) ys ≡ sets l at (xs ++ ys)
@@ -13,6 +13,16 @@ sets-append l at [] ys = let e : at + 0 ≡ at = omega arith in rw e
 sets-append l at (x ∷ xs) ys =
     let e : at + suc (length xs) ≡ suc at + length xs = omega arith in
     rw e (sets-append _ (suc at) xs ys)
+
+-- a record stored at the front is written
+pub written : {xs l l' : List ℕ} {count : ℕ}
+    → l' ≡ sets l 0 xs
+    → count ≡ length xs
+    → length xs ≤ length l
+    → Written xs l l' count
+written {xs} {l} e c h =
+    let z : 0 + length xs ≡ length xs = omega arith in
+    record { contents = e ∙ rw z at (sets-eq xs l 0 (omega arith)); counted = c }
 
 module _ {xs ys₀ ys : List ℕ} {n : ℕ} (w : Written xs ys₀ ys n) where
   -- the front is the list
@@ -23,8 +33,15 @@ module _ {xs ys₀ ys : List ℕ} {n : ℕ} (w : Written xs ys₀ ys n) where
   pub written-length : length xs ≤ length ys₀ → length ys ≡ length ys₀
   written-length h = ap length (w .contents) ∙ simp (length-append, length-drop) (omega arith)
 
+  -- no byte behind it is changed
+  pub written-rest : drop n ys ≡ drop n ys₀
+  written-rest = rw (w .counted, w .contents, drop-at xs (drop (length xs) ys₀) (length xs) refl)
+
   pub written-within : n ≤ length ys
   written-within = omega (arith, w .counted, simp (length-append, length-drop) at (ap length (w .contents)))
+
+pub written-nothing : {xs ys₀ ys : List ℕ} {n : ℕ} → xs ≡ [] → Written xs ys₀ ys n → NothingWritten ys₀ ys n
+written-nothing e w = record { unchanged = rw e at (w .contents); none = rw e at (w .counted) }
 
 -- the part of ys from a place on, and ys with that part put back
 abbrev pub partAt : List ℕ → ℕ → List ℕ

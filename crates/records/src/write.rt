@@ -1,4 +1,4 @@
-// Writes answer records, each into the part of the answer buffer that begins at its place.
+// Writes numbers as bytes, and answer records, each into the part of the answer buffer that begins at its place.
 ghost use mathlib.Core.Path.{_≡_};
 ghost use Prim.Native.Nat.{_+_, _*_, _≤_};
 ghost use lib.ListN.{length};
@@ -6,7 +6,7 @@ ghost use lib.Seq.{sets};
 ghost use Rattle.specification.specs.Bytes.{bytes, words, Written, encode, portAnswer, bufferAnswer, loopAnswer, cycleAnswer, floorAnswer};
 
 // The n lowest bytes of v at a place, the lowest first.
-fn put_number(tail: &mut [u8], at: usize, n: usize, v: u64)
+pub fn put_number(tail: &mut [u8], at: usize, n: usize, v: u64)
     requires { ⌜ at + n ≤ length (now tail) ⌝ }
     ensures { λ _. ⌜ now (tail .exit) ≡ sets (now (tail .entry)) at (bytes n v) ⌝ }
 {

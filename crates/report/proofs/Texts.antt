@@ -1,17 +1,20 @@
 -- The text of an input, by how its reading ended and by its length.
-use Prim.Native.Nat.{ℕ, _≤_, _<_}
-use mathlib.Core.Path.{_≡_, refl, sym, _∙_}
+use Prim.Native.Nat.{ℕ, _≤_}
+use mathlib.Core.Path.{_≡_, refl, sym}
 use mathlib.Core.Bool.{Bool, true, false, true≢false}
 use mathlib.Core.List.{List}
 use native.Mathlib.Omega.{arith}
 use lib.ListN.{length, take}
+use borrow.Author.Tests.{leb-true, leb-false}
 use Rattle.specification.specs.Bytes.{Written}
 use Rattle.specification.specs.Answers.{leastRoom}
 use Rattle.specification.specs.Analysed.{Analysed}
 use Rattle.specification.specs.declared.Outcome.{Outcome}
+use Rattle.input.specs.Input.{mostBytes, readWhole}
+use Rattle.text.specs.Lines.{unreadLine, longLine, notWholeLine}
 use Rattle.text.specs.Printed.{printed}
 use Rattle.report.specs.AnswerTextLaws.{printed-analysed}
-use Rattle.report.specs.Report.{mostBytes, unreadLine, longLine, PrintedText, Reported}
+use Rattle.report.specs.Report.{PrintedText, Reported}
 
 -- what an analysis wrote into the least answer buffer, printed
 pub printed-text : {s before after text text′ : List ℕ} {o : Outcome} {r : ℕ} → Analysed s before after o → length before ≡ leastRoom
@@ -25,31 +28,37 @@ printed-text {s} h room w l = record {
   within = l;
 }
 
-module _ {s before after : List ℕ} {failed : Bool} {r : ℕ} where
-  pub reported-unread : failed ≡ true → Written unreadLine before after r → r ≤ length after → Reported s failed before after r
-  reported-unread e w l = record {
+module _ {s before after : List ℕ} {count r : ℕ} where
+  pub reported-not-whole : (failed : Bool) → length s ≡ count → readWhole failed count ≡ false → Written (notWholeLine failed) before after r → r ≤ length after
+      → Reported s failed before after r
+  unfolding readWhole notWholeLine
+  reported-not-whole true m e w l = record {
     text = unreadLine;
+    is-text = record { unread = λ f. refl; long = λ f h. absurd (true≢false f); analysed = λ f h. absurd (true≢false f) };
+    written = w;
+    within = l;
+  }
+  reported-not-whole false m e w l = record {
+    text = longLine;
     is-text = record {
-      unread = λ f. refl;
-      long = λ f h. absurd (true≢false (sym e ∙ f));
-      analysed = λ f h. absurd (true≢false (sym e ∙ f));
+      unread = λ f. absurd (true≢false (sym f));
+      long = λ f h. refl;
+      analysed = λ f h. absurd (omega (arith, leb-false count mostBytes e));
     };
     written = w;
     within = l;
   }
 
-  pub reported-long : failed ≡ false → mostBytes < length s → Written longLine before after r → r ≤ length after → Reported s failed before after r
-  reported-long e m w l = record {
-    text = longLine;
-    is-text = record { unread = λ f. absurd (true≢false (sym f ∙ e)); long = λ f h. refl; analysed = λ f h. absurd (omega arith) };
-    written = w;
-    within = l;
-  }
-
-  pub reported-answer : failed ≡ false → length s ≤ mostBytes → PrintedText s before after r → Reported s failed before after r
-  reported-answer e m p = record {
+  pub reported-answer : (failed : Bool) → length s ≡ count → readWhole failed count ≡ true → PrintedText s before after r → Reported s failed before after r
+  unfolding readWhole
+  reported-answer true m e p = absurd (true≢false (sym e))
+  reported-answer false m e p = record {
     text = p .text;
-    is-text = record { unread = λ f. absurd (true≢false (sym f ∙ e)); long = λ f h. absurd (omega arith); analysed = λ f h. p .printed };
+    is-text = record {
+      unread = λ f. absurd (true≢false (sym f));
+      long = λ f h. absurd (omega (arith, leb-true count mostBytes e));
+      analysed = λ f h. p .printed;
+    };
     written = p .written;
     within = p .within;
   }

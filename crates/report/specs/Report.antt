@@ -2,28 +2,18 @@
 use Prim.Native.Nat.{ℕ, _≤_, _<_}
 use mathlib.Core.Path.{_≡_}
 use mathlib.Core.Bool.{Bool, true, false}
-use mathlib.Core.List.{List, [], _∷_}
+use mathlib.Core.List.{List}
 use lib.ListN.{length}
 use Rattle.specification.specs.Bytes.{Written}
 use Rattle.specification.specs.Reading.{readTable}
 use Rattle.specification.specs.Answers.{Answer, leastRoom, AnswerOf, answerPlace}
+use Rattle.input.specs.Input.{mostBytes}
+use Rattle.text.specs.Lines.{unreadLine, longLine}
 use Rattle.report.specs.AnswerText.{textOf}
-
--- the most bytes that are analysed
-abbrev pub mostBytes : ℕ
-mostBytes = 65536
 
 -- the room for the text of every answer
 abbrev pub textRoom : ℕ
 textRoom = 61492
-
--- "answer unread"
-abbrev pub unreadLine : List ℕ
-unreadLine = 97 ∷ 110 ∷ 115 ∷ 119 ∷ 101 ∷ 114 ∷ 32 ∷ 117 ∷ 110 ∷ 114 ∷ 101 ∷ 97 ∷ 100 ∷ 10 ∷ []
-
--- "answer long"
-abbrev pub longLine : List ℕ
-longLine = 97 ∷ 110 ∷ 115 ∷ 119 ∷ 101 ∷ 114 ∷ 32 ∷ 108 ∷ 111 ∷ 110 ∷ 103 ∷ 10 ∷ []
 
 -- the printed form of a right answer to the input, with its place
 pub record PrintedAnswer (s text : List ℕ) : Type 0 where

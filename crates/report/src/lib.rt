@@ -3,7 +3,8 @@ ghost use Prim.Native.Nat.{_≤_, _<_};
 ghost use mathlib.Core.Path.{_≡_};
 ghost use lib.ListN.{length, take};
 ghost use Rattle.specification.specs.Answers.{leastRoom};
-ghost use Rattle.report.specs.Report.{mostBytes, textRoom, PrintedText, Reported};
+ghost use Rattle.input.specs.Input.{mostBytes};
+ghost use Rattle.report.specs.Report.{textRoom, PrintedText, Reported};
 use input::Input;
 use specification::limits;
 use text::print;
@@ -15,21 +16,11 @@ pub fn report(space: &[u8], read: Input, text: &mut [u8]) -> usize
     requires { ⌜ textRoom ≤ length (now text) ⌝ }
     ensures { λ r. ⌜ Reported (take (read .count) (now (space .entry))) (read .failed) (now (text .entry)) (now (text .exit)) r ⌝ }
 {
-    if read.failed {
-        return print::print_line(b"answer unread\n", text);
+    if !input::whole(read) {
+        return print::print_not_whole(read.failed, text);
     }
     let count = read.count;
-    if 65536 < count {
-        return print::print_line(b"answer long\n", text);
-    }
     print_answer(&space[..count], text)
-}
-
-// Room for an input, with a byte more than is analysed.
-pub fn input_room() -> [u8; 65537]
-    ensures { λ r. ⌜ 65537 ≡ length r ⌝ }
-{
-    [0; 65537]
 }
 
 fn print_answer(s: &[u8], text: &mut [u8]) -> usize

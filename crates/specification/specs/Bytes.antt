@@ -56,3 +56,8 @@ floorAnswer port = encode 20 (bytes 2 port)
 pub record Written (bytes-of tail tail′ : List ℕ) (count : ℕ) : Type 0 where
   pub contents : tail′ ≡ bytes-of ++ drop (length bytes-of) tail
   pub counted : count ≡ length bytes-of
+
+-- nothing was written
+pub record NothingWritten (before after : List ℕ) (written : ℕ) : Type 0 where
+  pub unchanged : after ≡ before
+  pub none : written ≡ 0

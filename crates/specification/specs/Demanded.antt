@@ -7,7 +7,7 @@ use lib.ListN.{length, drop}
 use Rattle.specification.specs.Table.{Table}
 use Rattle.specification.specs.Reading.{FaultPlace, start, readTable}
 use Rattle.specification.specs.Ratios.{Step, DisagreeingLoop, Overweight}
-use Rattle.specification.specs.Bytes.{Written, loopAnswer, cycleAnswer}
+use Rattle.specification.specs.Bytes.{Written, NothingWritten, loopAnswer, cycleAnswer}
 use Rattle.specification.specs.Answers.{Timing, Floor, consistent, records, loopNumbers, floorRecord, NoPeriod, leastRoom}
 use Rattle.specification.specs.Solutions.{Solution, LeastSolution}
 use Rattle.specification.specs.Chains.{Demand3}
@@ -39,11 +39,6 @@ module _ (t : Table) (before after : List ℕ) (r : Outcome) where
     pub records-are : Written (floorRecord floor ++ cycleAnswer block) before after (r .written)
     pub unsolved : ¬ Solution t
 
--- nothing was written
-pub record NothingWritten (before after : List ℕ) (r : Outcome) : Type 0 where
-  pub unchanged : after ≡ before
-  pub none : r .written ≡ 0
-
 -- demand 2 calls a table well-formed when its call comes as far as trying 13
 pub record WellFormedCall (s before : List ℕ) : Type 0 where
   pub enough : leastRoom ≤ length before
@@ -64,7 +59,7 @@ pub record Demanded (s before after : List ℕ) (r : Outcome) : Type 0 where
   pub place : 2 ≤ r .number → r .number ≤ 11 → FaultPlace s start (r .number) (r .place)
   pub no-place : (r .number < 2) ⊎ (11 < r .number) → r .place ≡ 0
   -- 1 to 12 and 14 write nothing; other bytes than the written ones are unchanged
-  pub nothing : r .number ≢ 0 → r .number ≢ 13 → r .number ≢ 15 → NothingWritten before after r
+  pub nothing : r .number ≢ 0 → r .number ≢ 13 → r .number ≢ 15 → NothingWritten before after (r .written)
   pub room : r .written ≤ leastRoom
   pub same-length : length after ≡ length before
   pub rest : drop (r .written) after ≡ drop (r .written) before

@@ -9,3 +9,6 @@ pub mod Solutions
 pub mod Chains
 pub mod Analysed
 pub mod Demanded
+pub mod Encoding
+pub mod Joining
+pub mod Bracketing

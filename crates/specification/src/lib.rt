@@ -50,3 +50,13 @@ pub struct Outcome {
     pub place: usize,
     pub written: usize,
 }
+
+// What a call of the join returns: the number; the byte at which the faulty record begins within its input; that input, 1 the first, 2 the
+// second, 3 the added records; place and input are 0 where the number concerns no record; and how many bytes of the buffer were written.
+#[repr(C)]
+pub struct JoinOutcome {
+    pub number: u64,
+    pub place: usize,
+    pub input: u64,
+    pub written: usize,
+}

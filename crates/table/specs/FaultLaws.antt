@@ -14,6 +14,7 @@ use Rattle.specification.specs.Bytes.{numberAt}
 use Rattle.specification.specs.Table.{Table, portCount, linkCount, mostPorts, mostLinks}
 use Rattle.specification.specs.Reading.{refuse, lengthFaulty, partsFaulty, endsFaulty, ticksAt, eventsAt, portOf, linkOf, portAt, linkAt, connectionAt, bufferAt, kindAt, recordAt, Reading, withPort, withLink, after, readFrom, readOn, withTable, FaultPlace, start, readTable}
 use Rattle.specification.specs.Demanded.{TableFault}
+use Rattle.specification.specs.Joining.{RecordFault}
 use Rattle.table.specs.RecordLaws.{Onward, Accepted, accepted}
 use Rattle.table.specs.ReadingLaws.{bound-decides-nothing, read-on-fits}
 use Rattle.specification.specs.declared.Port.{Port}
@@ -209,6 +210,9 @@ module _ (s : List ℕ) (b : Before) where
   fault-from : readOn s b .number ≢ 0 → FaultFrom s 0 b (length s + 1) (readOn s b)
   unfolding readOn
   fault-from f = from-faulty s (length s + 1) 0 b (omega arith) (omega arith) f
+
+  pub fault-listed : readOn s b .number ≢ 0 → RecordFault (readOn s b .number)
+  fault-listed f = let r = fault-from f in record { least = r .least; most = r .most }
 
   pub fault-place : readOn s b .number ≢ 0 → FaultPlace s b (readOn s b .number) (readOn s b .place)
   fault-place f =

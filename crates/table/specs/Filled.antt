@@ -1,27 +1,15 @@
 -- What reading leaves in the slices that are lent to it.
 use Prim.Native.Nat.{ℕ, _+_, _-_, _*_, _/_, _≤_, min}
 use mathlib.Core.Path.{_≡_}
-use mathlib.Core.List.{List, _++_, map}
+use mathlib.Core.List.{List, map}
 use lib.ListN.{length, take}
 use lib.Seq.{sets}
 use Rattle.specification.specs.Table.{Table, mostPorts, mostLinks}
 use Rattle.table.specs.Slices.{portNumbers, linkNumbers}
 use Rattle.specification.specs.Reading.{Reading}
-use Rattle.specification.specs.declared.Link.{Link}
+use Rattle.specification.specs.Joining.{moved}
 use Rattle.specification.specs.declared.Before.{Before}
 use Rattle.table.specs.declared.reading.Counts.{Counts}
-
--- what is read behind other ports stands behind them: its links with their ends moved up
-abbrev pub moved : ℕ → Link → Link
-moved by l = record {
-  from = by + l .from;
-  to = by + l .to;
-  num = l .num;
-  den = l .den;
-  ticks = l .ticks;
-  events = l .events;
-  buffer = l .buffer;
-}
 
 -- the slices hold what stands before the input, and room for what so many bytes can hold: a port has 8 bytes, a link 16 or more
 pub record Room (bytes : ℕ) (b : Before) (ports links : ℕ) : Type 0 where
@@ -31,7 +19,7 @@ pub record Room (bytes : ℕ) (b : Before) (ports links : ℕ) : Type 0 where
   pub port-room : 2 * min mostPorts (b .ports + bytes / 8) ≤ ports
   pub link-room : 9 * min mostLinks (b .links + bytes / 16) ≤ links
 
--- the numbers of what was read stand behind what stood before; the rest of the slices is as it was
+-- the numbers of what was read stand behind what stood before, its links with their ends moved up; the rest of the slices is as it was
 pub record Filled (b : Before) (r : Reading) (ports links ports′ links′ : List ℕ) (c : Counts) : Type 0 where
   pub number : c .number ≡ r .number
   pub place : c .place ≡ r .place
@@ -46,7 +34,3 @@ pub record Filled (b : Before) (r : Reading) (ports links ports′ links′ : Li
 pub record Front (t : Table) (ports links : List ℕ) (p m : ℕ) : Type 0 where
   pub ports-are : take (2 * p) ports ≡ portNumbers (t .ports)
   pub links-are : take (9 * m) links ≡ linkNumbers (t .links)
-
--- a table with the ports and links of another behind its own, so many numbers higher
-abbrev pub behind : Table → ℕ → Table → Table
-behind t by u = record { ports = t .ports ++ u .ports; links = t .links ++ map (moved by) (u .links) }

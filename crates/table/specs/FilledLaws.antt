@@ -12,7 +12,8 @@ use Rattle.table.specs.Slices.{portNumbers, linkNumbers, tableOf}
 use Rattle.table.specs.SliceLaws.{length-port-numbers, length-link-numbers, table-back}
 use Rattle.specification.specs.Reading.{Reading, start, readTable}
 use Rattle.table.specs.ReadingLaws.{well-formed}
-use Rattle.table.specs.Filled.{moved, Filled, Front, behind}
+use Rattle.table.specs.Filled.{Filled, Front}
+use Rattle.specification.specs.Joining.{moved, behind}
 use Rattle.specification.specs.declared.Port.{Port}
 use Rattle.specification.specs.declared.Link.{Link}
 use Rattle.specification.specs.declared.Before.{Before}
@@ -26,7 +27,7 @@ link-numbers-append : (ls ks : List Link) → linkNumbers (ls ++ ks) ≡ linkNum
 link-numbers-append [] ks = refl
 link-numbers-append (l ∷ ls) ks = rw (link-numbers-append ls ks)
 
-moved-none : (ls : List Link) → map (moved 0) ls ≡ ls
+pub moved-none : (ls : List Link) → map (moved 0) ls ≡ ls
 moved-none [] = refl
 moved-none (l ∷ ls) = rw (zero-add (l .from), zero-add (l .to), moved-none ls)
 

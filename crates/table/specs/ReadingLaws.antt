@@ -9,7 +9,7 @@ use lib.ListN.{length, getD}
 use lib.Dec.{eqb}
 use borrow.Author.Tests.{eqb-false}
 use Rattle.specification.specs.Table.{noPort, noLink, mostPorts, mostLinks}
-use Rattle.table.specs.WellFormed.{PortFits, LinkFits, WellFormed}
+use Rattle.table.specs.WellFormed.{PortFits, LinkFits, OneSided, WellFormed}
 use Rattle.specification.specs.Reading.{recordAt, Reading, withPort, withLink, after, readFrom, readOn, start, readTable}
 use Rattle.table.specs.RecordLaws.{Accepted, accepted}
 use Rattle.specification.specs.declared.Port.{Port}
@@ -48,6 +48,7 @@ pub record Fitting (b : Before) (ps : List Port) (ls : List Link) : Type 0 where
   pub few-links : b .links ≤ mostLinks → b .links + length ls ≤ mostLinks
   pub ports : (p : ℕ) → p < length ps → PortFits (getD ps p noPort)
   pub links : (k : ℕ) → k < length ls → LinkFits (b .named + length ps) (getD ls k noLink)
+  pub sided : (k : ℕ) → k < length ls → OneSided (getD ls k noLink)
 
 nothing-fits : (b : Before) → Fitting b [] []
 nothing-fits b = record {
@@ -55,6 +56,7 @@ nothing-fits b = record {
   few-links = λ h. omega arith;
   ports = λ p h. absurd (omega arith);
   links = λ k h. absurd (omega arith);
+  sided = λ k h. absurd (omega arith);
 }
 
 -- what holds of the first and of the others holds of all
@@ -64,10 +66,14 @@ all-cons : {A : Type 0} (P : A → Type 0) (d x : A) (xs : List A) → P x → (
 all-cons P d x xs first others zero h = first
 all-cons P d x xs first others (suc k) h = others k (omega arith)
 
-fits-more : {m : ℕ} {l : Link} (n : ℕ) → LinkFits m l → m ≤ n → LinkFits n l
-fits-more n f h = record {
-  from = omega (arith, f .from);
-  to = omega (arith, f .to);
+-- a link between other ports
+abbrev pub between : (from to : ℕ) → Link → Link
+between from to l = record { from = from; to = to; num = l .num; den = l .den; ticks = l .ticks; events = l .events; buffer = l .buffer }
+
+pub between-fits : {m n : ℕ} {l : Link} (from to : ℕ) → LinkFits m l → from < n → to < n → LinkFits n (between from to l)
+between-fits from to f from-below to-below = record {
+  from = from-below;
+  to = to-below;
   num = f .num;
   den = f .den;
   ticks-forward = f .ticks-forward;
@@ -75,6 +81,9 @@ fits-more n f h = record {
   events-forward = f .events-forward;
   events-back = f .events-back;
 }
+
+pub fits-more : {m : ℕ} {l : Link} (n : ℕ) → LinkFits m l → m ≤ n → LinkFits n l
+fits-more {l = l} n f h = between-fits (l .from) (l .to) f (omega (arith, f .from)) (omega (arith, f .to))
 
 after-fits : (s : List ℕ) (at : ℕ) (b : Before) (rest : ℕ → Before → Reading) (r : Read) → Accepted s at b r
     → ((next : ℕ) (c : Before) → Fitting c (rest next c .table .ports) (rest next c .table .links))
@@ -88,6 +97,7 @@ after-fits s at b rest (PortRecord p next) a each =
       few-links = λ h. f .few-links h;
       ports = all-cons PortFits noPort p ps (a .fits) (f .ports);
       links = λ k h. fits-more (b .named + suc (length ps)) (f .links k h) (omega arith);
+      sided = f .sided;
     }
 after-fits s at b rest (LinkRecord l next) a each =
     let f = each next (withLink b) in
@@ -98,6 +108,7 @@ after-fits s at b rest (LinkRecord l next) a each =
       few-links = λ h. omega (arith, a .room, f .few-links (omega (arith, a .room)));
       ports = f .ports;
       links = all-cons (LinkFits (b .named + length ps)) noLink l ls (fits-more (b .named + length ps) (a .fits) (omega arith)) (f .links);
+      sided = all-cons OneSided noLink l ls (a .sided) (f .sided);
     }
 after-fits s at b rest (Refused number place) a each = nothing-fits b
 after-fits s at b rest End a each = nothing-fits b

@@ -1,17 +1,19 @@
 -- What is known of a record that was read.
-use Prim.Native.Nat.{ℕ, _+_, _-_, _≤_, _<_}
-use mathlib.Core.Path.{_≡_, refl}
+use Prim.Native.Nat.{ℕ, _+_, _*_, _-_, _≤_, _<_}
+use mathlib.Core.Path.{_≡_, refl, sym}
 use mathlib.Core.Bool.{Bool, true, false, not, _||_, cond, true≢false}
 use mathlib.Core.List.{List}
 use native.Mathlib.Omega.{arith}
 use native.Mathlib.Nat.{pos-of-ne-zero}
 use lib.ListN.{length}
 use lib.Dec.{ltb, leb, eqb}
-use borrow.Author.Tests.{ltb-false, leb-false, eqb-false, eqb-true, not-false}
+use borrow.Author.Tests.{ltb-false, leb-true, leb-false, eqb-false, eqb-true, not-false}
 use Rattle.specification.specs.Bytes.{numberAt}
 use Rattle.specification.specs.Table.{mostPorts, mostLinks, mostPart, mostTicks, mostEvents}
-use Rattle.table.specs.WellFormed.{PartFits, PortFits, LinkFits}
+use Rattle.table.specs.WellFormed.{PartFits, PortFits, LinkFits, OneSided}
 use Rattle.specification.specs.Reading.{
+  forward,
+  back,
   refuse,
   lengthFaulty,
   partFaulty,
@@ -48,6 +50,7 @@ pub record Onward (s : List ℕ) (at least most next : ℕ) : Type 0 where
 -- a port record: there was room for it, it could come here, and its rate is within the limits
 pub record PortAccepted (s : List ℕ) (at : ℕ) (before : Before) (p : Port) (next : ℕ) : Type 0 where
   pub onward : Onward s at 8 8 next
+  pub kind : eqb (numberAt s (at + 2) 2) 1 ≡ true
   pub room : before .ports < mostPorts
   pub may-come : before .«port_may_come» ≡ true
   pub fits : PortFits p
@@ -55,8 +58,10 @@ pub record PortAccepted (s : List ℕ) (at : ℕ) (before : Before) (p : Port) (
 -- a connection or buffer: there was room for it, and it is within the limits
 pub record LinkAccepted (s : List ℕ) (at : ℕ) (before : Before) (l : Link) (next : ℕ) : Type 0 where
   pub onward : Onward s at 16 20 next
+  pub kind : eqb (numberAt s (at + 2) 2) 1 ≡ false
   pub room : before .links < mostLinks
   pub fits : LinkFits (before .named) l
+  pub sided : OneSided l
 
 -- a refusal has one of the numbers 2 to 11, and the place where the record begins, which is within the table
 pub record Fault (s : List ℕ) (at n place : ℕ) : Type 0 where
@@ -65,12 +70,16 @@ pub record Fault (s : List ℕ) (at n place : ℕ) : Type 0 where
   pub here : place ≡ at
   pub within : at < length s
 
+-- none is left
+pub record Ended (s : List ℕ) (at : ℕ) : Type 0 where
+  pub behind : length s ≤ at
+
 -- what reading a record tells, by its outcome
 abbrev pub Accepted : List ℕ → ℕ → Before → Read → Type 0
 Accepted s at before (PortRecord p next) = PortAccepted s at before p next
 Accepted s at before (LinkRecord l next) = LinkAccepted s at before l next
 Accepted s at before (Refused n place) = Fault s at n place
-Accepted s at before End = Unit
+Accepted s at before End = Ended s at
 
 -- neither of two tests finds a fault
 record Neither (a b : Bool) : Type 0 where
@@ -132,6 +141,15 @@ amount-fits most forward back h =
     let both = neither (ltb most forward) (ltb most back) h in
     record { above = ltb-false most forward (both .left); below = ltb-false most back (both .right) }
 
+-- two's complement gives one amount
+one-side : (v : ℕ) → forward v * back v ≡ 0
+unfolding forward back
+one-side v = decided (ltb v 2147483648)
+  where
+    decided : (test : Bool) → cond test v 0 * cond test 0 (4294967296 - v) ≡ 0
+    decided true = omega arith
+    decided false = omega arith
+
 module _ (s : List ℕ) (at : ℕ) (before : Before) where
   -- `Accepted` by a name of its own, so that the read record is inferred
   record Tells (r : Read) : Type 0 where
@@ -142,16 +160,16 @@ module _ (s : List ℕ) (at : ℕ) (before : Before) where
   behind n number true r f = record { told = number }
   behind n number false r f = f refl
 
-  either : (test : Bool) (r r' : Read) → Tells r → (test ≡ false → Tells r') → Tells (cond test r r')
-  either true r r' t f = t
+  either : (test : Bool) (r r' : Read) → (test ≡ true → Tells r) → (test ≡ false → Tells r') → Tells (cond test r r')
+  either true r r' t f = t refl
   either false r r' t f = f refl
 
   sized : (n m : ℕ) → not (eqb n m) ≡ false → n ≡ m
   sized n m size = eqb-true n m (not-false (eqb n m) size)
 
-  tells-port : (n : ℕ) → numberAt s at 2 ≡ n → at + 2 + n ≤ length s → Tells (portAt s at n before)
+  tells-port : (n : ℕ) → numberAt s at 2 ≡ n → at + 2 + n ≤ length s → eqb (numberAt s (at + 2) 2) 1 ≡ true → Tells (portAt s at n before)
   unfolding portAt portOf
-  tells-port n is ends = behind 4 (omega arith) _ _ (λ size. behind 5 (omega arith) _ _ (λ may. behind 6 (omega arith) _ _ (λ room. behind 8 (omega arith) _ _ (λ parts. record { told = told size may room parts }))))
+  tells-port n is ends kind = behind 4 (omega arith) _ _ (λ size. behind 5 (omega arith) _ _ (λ may. behind 6 (omega arith) _ _ (λ room. behind 8 (omega arith) _ _ (λ parts. record { told = told size may room parts }))))
     where
       told : not (eqb n 6) ≡ false → not (before .«port_may_come») ≡ false → leb mostPorts (before .ports) ≡ false
           → partsFaulty s (at + 4) ≡ false
@@ -160,14 +178,18 @@ module _ (s : List ℕ) (at : ℕ) (before : Before) where
           let fit = parts-fit s (at + 4) parts in
           record {
             onward = omega (arith, sized n 6 size);
+            kind = kind;
             room = leb-false mostPorts (before .ports) room;
             may-come = not-false (before .«port_may_come») may;
             fits = record { num = fit .num; den = fit .den };
           }
 
-  tells-link : (events : Events) (buffer : Bool) (next : ℕ) → Onward s at 16 20 next → Tells (linkAt s at before events buffer next)
-  unfolding linkAt linkOf delaysFaulty
-  tells-link events buffer next onward = behind 7 (omega (arith, onward)) _ _ (λ room. behind 9 (omega (arith, onward)) _ _ (λ ends. behind 10 (omega (arith, onward)) _ _ (λ parts. behind 11 (omega (arith, onward)) _ _ (λ amounts. record { told = told room ends parts amounts }))))
+  tells-link : (events : Events) (buffer : Bool) (next : ℕ) → Onward s at 16 20 next → eqb (numberAt s (at + 2) 2) 1 ≡ false
+      → events .0 * events .1 ≡ 0
+      → (buffer ≡ true → events ≡ (0, 0))
+      → Tells (linkAt s at before events buffer next)
+  unfolding linkAt linkOf delaysFaulty ticksAt
+  tells-link events buffer next onward kind one none = behind 7 (omega (arith, onward)) _ _ (λ room. behind 9 (omega (arith, onward)) _ _ (λ ends. behind 10 (omega (arith, onward)) _ _ (λ parts. behind 11 (omega (arith, onward)) _ _ (λ amounts. record { told = told room ends parts amounts }))))
     where
       ticks : Ticks
       ticks = ticksAt s (at + 12)
@@ -185,6 +207,7 @@ module _ (s : List ℕ) (at : ℕ) (before : Before) where
           let den : at + 4 + 6 ≡ at + 8 + 2 = omega arith in
           record {
             onward = onward;
+            kind = kind;
             room = leb-false mostLinks (before .links) room;
             fits = record {
               from = e .from;
@@ -196,14 +219,15 @@ module _ (s : List ℕ) (at : ℕ) (before : Before) where
               events-forward = v .above;
               events-back = v .below;
             };
+            sided = record { ticks = one-side (numberAt s (at + 12) 4); events = one; no-events = none };
           }
 
-  tells-kind : (n kind : ℕ) → numberAt s at 2 ≡ n → at + 2 + n ≤ length s → Tells (kindAt s at n kind before)
-  unfolding kindAt connectionAt bufferAt
-  tells-kind n kind is ends =
-      either (eqb kind 1) _ _ (tells-port n is ends)
-      (λ _. either (eqb kind 2) _ _ (behind 4 (omega arith) (not (eqb n 18)) _ (λ size. tells-link (eventsAt s (at + 16)) false (at + 20) (omega (arith, sized n 18 size))))
-      (λ _. either (eqb kind 3) _ (Refused 3 at) (behind 4 (omega arith) (not (eqb n 14)) _ (λ size. tells-link (0, 0) true (at + 16) (omega (arith, sized n 14 size))))
+  tells-kind : (n : ℕ) → numberAt s at 2 ≡ n → at + 2 + n ≤ length s → Tells (kindAt s at n (numberAt s (at + 2) 2) before)
+  unfolding kindAt connectionAt bufferAt eventsAt
+  tells-kind n is ends =
+      either (eqb (numberAt s (at + 2) 2) 1) _ _ (tells-port n is ends)
+      (λ kind. either (eqb (numberAt s (at + 2) 2) 2) _ _ (λ _. behind 4 (omega arith) (not (eqb n 18)) _ (λ size. tells-link (eventsAt s (at + 16)) false (at + 20) (omega (arith, sized n 18 size)) kind (one-side (numberAt s (at + 16) 4)) (λ e. absurd (true≢false (sym e)))))
+      (λ _. either (eqb (numberAt s (at + 2) 2) 3) _ (Refused 3 at) (λ _. behind 4 (omega arith) (not (eqb n 14)) _ (λ size. tells-link (0, 0) true (at + 16) (omega (arith, sized n 14 size)) kind (omega arith) (λ _. refl)))
       (λ _. record { told = omega arith })))
 
   -- reading a record tells this
@@ -213,7 +237,7 @@ module _ (s : List ℕ) (at : ℕ) (before : Before) where
     where
       tells : Tells (recordAt s at before)
       tells =
-          either (leb (length s) at) End _ (record { told = tt })
+          either (leb (length s) at) End _ (λ none. record { told = record { behind = leb-true (length s) at none } })
           (λ some.
           let within = leb-false (length s) at some in
-          behind 2 (omega (arith, within)) _ _ (λ size. tells-kind (numberAt s at 2) (numberAt s (at + 2) 2) refl (whole s at size .ends)))
+          behind 2 (omega (arith, within)) _ _ (λ size. tells-kind (numberAt s at 2) refl (whole s at size .ends)))

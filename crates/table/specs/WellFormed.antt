@@ -1,5 +1,7 @@
 -- What it is for a table to be within its limits.
-use Prim.Native.Nat.{ℕ, _≤_, _<_}
+use Prim.Native.Nat.{ℕ, _*_, _≤_, _<_}
+use mathlib.Core.Path.{_≡_}
+use mathlib.Core.Bool.{true}
 use Rattle.specification.specs.declared.Port.{Port}
 use Rattle.specification.specs.declared.Link.{Link}
 use Rattle.specification.specs.Table.{Table, portCount, linkCount, port, link, mostPart, mostTicks, mostPorts, mostEvents, mostLinks}
@@ -22,6 +24,12 @@ pub record LinkFits (ports : ℕ) (l : Link) : Type 0 where
   pub ticks-back : l .ticks .1 ≤ mostTicks
   pub events-forward : l .events .0 ≤ mostEvents
   pub events-back : l .events .1 ≤ mostEvents
+
+-- an amount forward or an amount back is zero, and a buffer has no events
+pub record OneSided (l : Link) : Type 0 where
+  pub ticks : l .ticks .0 * l .ticks .1 ≡ 0
+  pub events : l .events .0 * l .events .1 ≡ 0
+  pub no-events : l .buffer ≡ true → l .events ≡ (0, 0)
 
 -- what holds of every table that is read with number 0
 pub record WellFormed (t : Table) : Type 0 where

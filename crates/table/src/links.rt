@@ -16,6 +16,13 @@ use specification::Ticks;
 
 pub const WIDTH: usize = 9;
 
+// Room for the most links of a table.
+pub fn room() -> [u32; 2304]
+    ensures { λ r. ⌜ 2304 ≡ length r ⌝ }
+{
+    [0; 2304]
+}
+
 pub fn count(links: &[u32]) -> usize
     ensures { λ r. ⌜ r ≡ length (linksOf (now (links .entry))) ⌝ }
 {

@@ -3,6 +3,7 @@ ghost use Prim.Native.Nat.{_+_, _≤_, _<_};
 ghost use mathlib.Core.Path.{_≡_};
 ghost use lib.ListN.{length};
 ghost use Rattle.specification.specs.Reading.{readTable};
+use table::links;
 use table::reading;
 use table::reading::Counts;
 
@@ -43,15 +44,8 @@ fn read(s: &[u8]) -> Counts
     ensures { λ r. ⌜ r .place ≡ readTable (now (s .entry)) .place ⌝ }
 {
     let mut ports = [0u32; 128];
-    let mut links = link_numbers();
+    let mut links = links::room();
     reading::read_table(s, &mut ports, &mut links)
-}
-
-// Nine numbers for each of 256 links.
-fn link_numbers() -> [u32; 2304]
-    ensures { λ r. ⌜ 2304 ≡ length r ⌝ }
-{
-    [0; 2304]
 }
 
 fn table_size(s: &[u8], at: usize) -> usize

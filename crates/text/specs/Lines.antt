@@ -100,6 +100,18 @@ placeText number place = cond (eqb number 0) [] (field atWord place)
 unfoldable pub answerLine : (number place : ℕ) → List ℕ
 answerLine number place = field answerWord number ++ placeText number place ++ lineEnd
 
+-- "answer unread"
+abbrev pub unreadLine : List ℕ
+unreadLine = 97 ∷ 110 ∷ 115 ∷ 119 ∷ 101 ∷ 114 ∷ 32 ∷ 117 ∷ 110 ∷ 114 ∷ 101 ∷ 97 ∷ 100 ∷ 10 ∷ []
+
+-- "answer long"
+abbrev pub longLine : List ℕ
+longLine = 97 ∷ 110 ∷ 115 ∷ 119 ∷ 101 ∷ 114 ∷ 32 ∷ 108 ∷ 111 ∷ 110 ∷ 103 ∷ 10 ∷ []
+
+-- the line of an input that was not read whole: a read failed, or it is too long
+unfoldable pub notWholeLine : (failed : Bool) → List ℕ
+notWholeLine failed = cond failed unreadLine longLine
+
 -- a port's fields, its period and start as fractions
 unfoldable pub portText : (number component weight : ℕ) (period start : Fraction) → List ℕ
 portText number component weight period start =

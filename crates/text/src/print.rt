@@ -3,7 +3,7 @@ ghost use mathlib.Core.Path.{_≡_};
 ghost use Prim.Native.Nat.{_+_, _*_, _≤_};
 ghost use lib.ListN.{length};
 ghost use Rattle.specification.specs.Bytes.{numberAt, Written};
-ghost use Rattle.text.specs.Lines.{placeText};
+ghost use Rattle.text.specs.Lines.{placeText, notWholeLine};
 ghost use Rattle.text.specs.Printed.{hasLine, isRecord, recordLine, recordLines, printed, printedRoom};
 ghost use Rattle.text.specs.Places.{Lies};
 ghost use Rattle.text.specs.Put.{Put};
@@ -112,10 +112,22 @@ pub fn print(number: u64, place: usize, records: &[u8], text: &mut [u8]) -> usiz
 }
 
 // A line as it stands, at the front of the text.
-pub fn print_line(line: &[u8], text: &mut [u8]) -> usize
+fn print_line(line: &[u8], text: &mut [u8]) -> usize
     requires { ⌜ length (now line) ≤ length (now text) ⌝ }
     ensures { λ r. ⌜ Written (now (line .entry)) (now (text .entry)) (now (text .exit)) r ⌝ }
     ensures { λ r. ⌜ r ≤ length (now (text .exit)) ⌝ }
 {
     put_word(text, 0, line)
+}
+
+// The line of an input that was not read whole, at the front of the text.
+pub fn print_not_whole(failed: bool, text: &mut [u8]) -> usize
+    requires { ⌜ 14 ≤ length (now text) ⌝ }
+    ensures { λ r. ⌜ Written (notWholeLine failed) (now (text .entry)) (now (text .exit)) r ⌝ }
+    ensures { λ r. ⌜ r ≤ length (now (text .exit)) ⌝ }
+{
+    if failed {
+        return print_line(b"answer unread\n", text);
+    }
+    print_line(b"answer long\n", text)
 }

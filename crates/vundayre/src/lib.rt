@@ -1,6 +1,9 @@
-// The analysis, exported for programs in C and Rust (bindings/).
+// The analysis and the join, exported for programs in C and Rust (bindings/).
+ghost use lib.ListN.{length};
 ghost use Rattle.specification.specs.Analysed.{Analysed};
 ghost use Rattle.specification.specs.Demanded.{Demanded};
+ghost use Rattle.specification.specs.Joining.{joinInto, JoinReturned, JoinDemanded};
+use specification::JoinOutcome;
 use specification::Outcome;
 
 #[no_mangle]
@@ -9,4 +12,17 @@ pub extern "C" fn vundayre_analyse(table: &[u8], answer: &mut [u8]) -> Outcome
     ensures demands { λ r. ⌜ Demanded (now (table .entry)) (now (answer .entry)) (now (answer .exit)) r ⌝ }
 {
     analysis::analyse(table, answer)
+}
+
+#[no_mangle]
+pub extern "C" fn vundayre_join(
+    first: &[u8],
+    second: &[u8],
+    added: &[u8],
+    out: &mut [u8],
+) -> JoinOutcome
+    ensures { λ r. ⌜ JoinReturned (joinInto (now (first .entry)) (now (second .entry)) (now (added .entry)) (length (now (out .entry)))) (now (out .entry)) (now (out .exit)) r ⌝ }
+    ensures demands { λ r. ⌜ JoinDemanded (now (first .entry)) (now (second .entry)) (now (added .entry)) (now (out .entry)) (now (out .exit)) r ⌝ }
+{
+    joins::join(first, second, added, out)
 }

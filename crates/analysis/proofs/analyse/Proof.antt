@@ -38,8 +38,8 @@ same-length-2 c = search needs
 returns-3 : tie.Need-returns-3
 returns-3 c = search needs
 
-link-numbers-requires : tie.Need-link-numbers-requires
-link-numbers-requires c κs = search needs
+room-requires : tie.Need-room-requires
+room-requires c κs = search needs
 
 slice-aggregate-read-in-5 : tie.Need-slice-aggregate-read-in-5
 slice-aggregate-read-in-5 c = search needs
@@ -71,7 +71,7 @@ analyse-spec =
     read-in-requires-2
     same-length-2
     returns-3
-    link-numbers-requires
+    room-requires
     slice-aggregate-read-in-5
     slice-aggregate-read-in-6
     read-in-requires-3

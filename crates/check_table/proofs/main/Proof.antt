@@ -5,8 +5,8 @@ use borrow.Author.Needs.{needs}
 use Rattle.check_table.proofs.main.Statement.{statement}
 use Rattle.check_table.proofs.main.Tie as tie
 
-input-room-requires : tie.Need-input-room-requires
-input-room-requires c κs = search needs
+room-requires : tie.Need-room-requires
+room-requires c κs = search needs
 
 large-buffer-requires : tie.Need-large-buffer-requires
 large-buffer-requires c κs = search needs
@@ -51,7 +51,7 @@ pub main-spec : {M : Type 1} → statement M
 main-spec =
     tie.close
     (tie.spec
-    input-room-requires
+    room-requires
     large-buffer-requires
     slice-aggregate-fill
     fill-requires

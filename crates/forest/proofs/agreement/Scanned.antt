@@ -6,6 +6,7 @@ use mathlib.Core.List.{List}
 use native.Mathlib.Omega.{arith}
 use borrow.Author.Count.{below-none, below-more}
 use Rattle.table.specs.WellFormed.{WellFormed, LinkFits}
+use Rattle.table.specs.ReadingLaws.{fits-more}
 use Rattle.specification.specs.Table.{Table, linkCount, link}
 use Rattle.specification.specs.declared.Link.{Link}
 use Rattle.forest.specs.PortRows.{Fits}
@@ -17,18 +18,7 @@ pub record Scanned (t : Table) (rows : List (List ℕ)) (k : ℕ) : Type 0 where
 
 -- a link of the table is one between numbers below 64
 pub link-low : {t : Table} {k : ℕ} {l : Link} → WellFormed t → k < linkCount t → l ≡ link t k → LinkFits 64 l
-link-low {t} {k} w h e =
-    let l = w .links k h in
-    rw e (record {
-      from = omega (arith, l .from, w .few-ports);
-      to = omega (arith, l .to, w .few-ports);
-      num = l .num;
-      den = l .den;
-      ticks-forward = l .ticks-forward;
-      ticks-back = l .ticks-back;
-      events-forward = l .events-forward;
-      events-back = l .events-back;
-    })
+link-low {k = k} w h e = rw e (fits-more 64 (w .links k h) (w .few-ports))
 
 module _ {t : Table} {rows : List (List ℕ)} where
   pub scanned-none : Scanned t rows 0

@@ -1,12 +1,12 @@
--- What a turn of a writer's loop leaves to store, and what the stores of a whole record make.
+-- What a turn of a writer's loop leaves to store.
 use Prim.Native.Nat.{ℕ, suc, _+_, _*_, _-_, _%_, _/_, _≤_, _<_}
 use mathlib.Core.Path.{_≡_, refl, _∙_}
 use mathlib.Core.List.{List, [], _∷_, _++_}
 use native.Mathlib.Omega.{arith}
 use native.Mathlib.Numerals.{add-one}
 use lib.ListN.{length, set, getD, drop, drop-of-length-le}
-use lib.Seq.{sets, sets-eq, length-sets, drop-cons}
-use Rattle.specification.specs.Bytes.{bytes, words, Written}
+use lib.Seq.{sets, length-sets, drop-cons}
+use Rattle.specification.specs.Bytes.{bytes, words}
 use Rattle.records.specs.WrittenLaws.{sets-append}
 
 -- where l is now, to store xs at a place is all that is left of storing xs₀ in l₀ at its place
@@ -61,13 +61,3 @@ module _ {l₀ : List ℕ} {at₀ : ℕ} {xs₀ : List ℕ} where
     pub word-none : length ns ≤ i → Left l₀ at₀ xs₀ l (at + 2 * i) (words (drop i ns)) → l ≡ sets l₀ at₀ xs₀
     unfolding words
     word-none h f = left-none f (rw (drop-of-length-le ns {i = i}))
-
--- a record stored at the front is written
-pub written : {xs l l' : List ℕ} {count : ℕ}
-    → l' ≡ sets l 0 xs
-    → count ≡ length xs
-    → length xs ≤ length l
-    → Written xs l l' count
-written {xs} {l} e c h =
-    let z : 0 + length xs ≡ length xs = omega arith in
-    record { contents = e ∙ rw z at (sets-eq xs l 0 (omega arith)); counted = c }

@@ -9,7 +9,8 @@ use lib.ListN.{length}
 use lib.Seq.{sets, length-sets}
 use Rattle.table.specs.Slices.{portNumbers, linkNumbers}
 use Rattle.specification.specs.Reading.{Reading, withPort, withLink, nothing, addPort, addLink, start, somePort}
-use Rattle.table.specs.Filled.{moved, Room, Filled}
+use Rattle.table.specs.Filled.{Room, Filled}
+use Rattle.specification.specs.Joining.{moved}
 use Rattle.specification.specs.declared.Port.{Port}
 use Rattle.specification.specs.declared.Link.{Link}
 use Rattle.specification.specs.declared.Before.{Before}

@@ -12,7 +12,9 @@ use Rattle.specification.specs.Table.{mostPorts}
 use Rattle.table.specs.WellFormed.{PortFits, LinkFits}
 use Rattle.specification.specs.Reading.{recordAt, withPort, withLink, after, readFrom, readOn}
 use Rattle.table.specs.RecordLaws.{Accepted, accepted}
-use Rattle.table.specs.Filled.{moved, Room, Filled}
+use Rattle.table.specs.ReadingLaws.{between-fits}
+use Rattle.table.specs.Filled.{Room, Filled}
+use Rattle.specification.specs.Joining.{moved}
 use Rattle.specification.specs.declared.Port.{Port}
 use Rattle.specification.specs.declared.Link.{Link}
 use Rattle.specification.specs.declared.Before.{Before}
@@ -72,21 +74,12 @@ module _ {s ports₀ links₀ : List ℕ} {by : ℕ} {b₀ : Before} {ports link
 
   pub link-fits : {l l′ : Link} {next : ℕ} → Turn s ports₀ links₀ by b₀ ports links b at (LinkRecord l next) → l′ ≡ moved by l
       → (9 * b .links + 9 ≤ length links) × LinkFits mostPorts l′
-  link-fits w d =
+  link-fits {l} w d =
       let f = w .told .fits in
-      let g = w .going in (
-        omega (arith, g .room, w .told),
-        rw d (record {
-          from = omega (arith, f .from, g .room, g .apart);
-          to = omega (arith, f .to, g .room, g .apart);
-          num = f .num;
-          den = f .den;
-          ticks-forward = f .ticks-forward;
-          ticks-back = f .ticks-back;
-          events-forward = f .events-forward;
-          events-back = f .events-back;
-        }),
-      )
+      let g = w .going in
+      let from : by + l .from < mostPorts = omega (arith, f .from, g .room, g .apart) in
+      let to : by + l .to < mostPorts = omega (arith, f .to, g .room, g .apart) in
+      (omega (arith, g .room, w .told), rw d (between-fits (by + l .from) (by + l .to) f from to))
 
   pub port-read : {p : Port} {next : ℕ} {ports′ : List ℕ} {b′ : Before} → Turn s ports₀ links₀ by b₀ ports links b at (PortRecord p next)
       → ports′ ≡ sets ports (2 * b .ports) (portNumbers (p ∷ []))

@@ -2,7 +2,7 @@
 use mathlib.Core.Path.{refl}
 use borrow.Author.Needs.{needs}
 use Rattle.specification.specs.Bytes.{bytes, encode, floorAnswer}
-use Rattle.records.proofs.write.Laws.{written}
+use Rattle.records.specs.WrittenLaws.{written}
 use Rattle.records.proofs.write.write_floor.Statement.{statement}
 use Rattle.records.proofs.write.write_floor.Tie as tie
 

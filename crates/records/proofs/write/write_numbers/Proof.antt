@@ -3,7 +3,7 @@ use native.Mathlib.Omega.{arith}
 use borrow.Author.Needs.{needs}
 use Rattle.specification.specs.Bytes.{bytes, encode}
 use Rattle.records.specs.Lengths.{words-length}
-use Rattle.records.proofs.write.Laws.{written}
+use Rattle.records.specs.WrittenLaws.{written}
 use Rattle.records.proofs.write.write_numbers.Statement.{statement}
 use Rattle.records.proofs.write.write_numbers.Tie as tie
 

@@ -1,0 +1,2 @@
+-- What the proofs of the loops over ports and links use.
+mod SoFar

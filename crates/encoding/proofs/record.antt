@@ -1,0 +1,2 @@
+-- What the proof of `write_link` uses.
+mod ByKind

@@ -1,0 +1,5 @@
+-- What the writers of a table ask, and that what they write is read back.
+pub mod Bounded
+pub mod EncodingLaws
+pub mod RecordBack
+pub mod ReadBack

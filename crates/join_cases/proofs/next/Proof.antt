@@ -1,0 +1,125 @@
+-- The inputs and the room lie within their buffers.
+use native.Mathlib.Omega.{arith}
+use lib.ListN.{length-take}
+use borrow.Author.Needs.{needs}
+use Rattle.join_cases.proofs.next.Statement.{statement}
+use Rattle.join_cases.proofs.next.Tie as tie
+
+slice-relend-prefix-fill : tie.Need-slice-relend-prefix-fill
+slice-relend-prefix-fill c = search needs
+
+slice-aggregate-fill : tie.Need-slice-aggregate-fill
+slice-aggregate-fill c = simp length-take (omega arith)
+
+fill-requires : tie.Need-fill-requires
+fill-requires c κs = search needs
+
+same-length : tie.Need-same-length
+same-length c = search needs
+
+returns : tie.Need-returns
+returns c = search needs
+
+number-at-requires : tie.Need-number-at-requires
+number-at-requires c κs = search needs
+
+number-at-requires-2 : tie.Need-number-at-requires-2
+number-at-requires-2 c κs = search needs
+
+number-at-requires-3 : tie.Need-number-at-requires-3
+number-at-requires-3 c κs = search needs
+
+add-added : tie.Need-add-added
+add-added c = search needs
+
+number-at-requires-4 : tie.Need-number-at-requires-4
+number-at-requires-4 c κs = search needs
+
+add-end : tie.Need-add-end
+add-end c = search needs
+
+same-length-2 : tie.Need-same-length-2
+same-length-2 c = search needs
+
+returns-2 : tie.Need-returns-2
+returns-2 c = search needs
+
+same-length-3 : tie.Need-same-length-3
+same-length-3 c = search needs
+
+returns-3 : tie.Need-returns-3
+returns-3 c = search needs
+
+slice-relend-prefix-fill-2 : tie.Need-slice-relend-prefix-fill-2
+slice-relend-prefix-fill-2 c = search needs
+
+slice-aggregate-fill-2 : tie.Need-slice-aggregate-fill-2
+slice-aggregate-fill-2 c = simp length-take (omega arith)
+
+fill-requires-2 : tie.Need-fill-requires-2
+fill-requires-2 c κs = search needs
+
+same-length-4 : tie.Need-same-length-4
+same-length-4 c = search needs
+
+returns-4 : tie.Need-returns-4
+returns-4 c = search needs
+
+slice-reshare-prefix-print-join : tie.Need-slice-reshare-prefix-print-join
+slice-reshare-prefix-print-join c = search needs
+
+slice-aggregate-print-join : tie.Need-slice-aggregate-print-join
+slice-aggregate-print-join c = simp length-take (omega arith)
+
+slice-relend-prefix-print-join : tie.Need-slice-relend-prefix-print-join
+slice-relend-prefix-print-join c = search needs
+
+slice-aggregate-print-join-2 : tie.Need-slice-aggregate-print-join-2
+slice-aggregate-print-join-2 c = simp length-take (omega arith)
+
+print-join-requires : tie.Need-print-join-requires
+print-join-requires c κs =
+    let read = c .before .before .before .before .before .before .fill2 .ensures in
+    (omega arith, simp length-take (omega (arith, read .0, simp length-take at (read .1))))
+
+same-length-5 : tie.Need-same-length-5
+same-length-5 c = search needs
+
+same-length-6 : tie.Need-same-length-6
+same-length-6 c = search needs
+
+returns-5 : tie.Need-returns-5
+returns-5 c = search needs
+
+pub next-spec : {M : Type 1} → statement M
+next-spec =
+    tie.close
+    (tie.spec
+    slice-relend-prefix-fill
+    slice-aggregate-fill
+    fill-requires
+    same-length
+    returns
+    number-at-requires
+    number-at-requires-2
+    number-at-requires-3
+    add-added
+    number-at-requires-4
+    add-end
+    same-length-2
+    returns-2
+    same-length-3
+    returns-3
+    slice-relend-prefix-fill-2
+    slice-aggregate-fill-2
+    fill-requires-2
+    same-length-4
+    returns-4
+    slice-reshare-prefix-print-join
+    slice-aggregate-print-join
+    slice-relend-prefix-print-join
+    slice-aggregate-print-join-2
+    print-join-requires
+    same-length-5
+    same-length-6
+    returns-5)

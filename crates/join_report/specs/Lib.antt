@@ -1,0 +1,2 @@
+-- What the join program writes.
+pub mod JoinReport

@@ -1,0 +1,3 @@
+-- What the proofs of `write_joined` and `join` use, and small joins by computation.
+mod Outcomes
+mod Cases

@@ -1,0 +1,2 @@
+-- What the proofs of reading the inputs use.
+mod Held

@@ -1,0 +1,158 @@
+"""Random models, and tables of them with a fault. The caller sets the seed."""
+import random
+
+from model import Link, Model, Port, link_bytes, port_bytes, record
+
+FAST = Port(1000, 1)
+
+
+def rate():
+    return Port(*random.choice(((1, 1), (1, 1), (1000, 1), (2, 5), (random.randint(1, 1000), random.randint(1, 1000)))))
+
+
+def scaled(num, den):
+    """The same ratio, not always in lowest terms."""
+    factor = random.randint(1, 1000 // max(num, den))
+    return num * factor, den * factor
+
+
+def joined_weights(ports, most):
+    return [random.randint(1, most) for _ in range(ports)]
+
+
+def random_delays(ports, links, most_weight, most_ticks, most_events):
+    """Delays of any sign, most back paths with credit, ratios that agree but for a few."""
+    w = joined_weights(ports, most_weight)
+    model = Model([rate() for _ in range(ports)])
+    for _ in range(links):
+        p, q = random.randrange(ports), random.randrange(ports)
+        ticks, events = random.randint(-most_ticks, most_ticks), random.randint(-most_events, most_events // 3)
+        model.links.append(Link(p, q, *scaled(w[p], w[q]), ticks, None if random.random() < 0.2 else events))
+    if model.links and random.random() < 0.05:
+        spoiled = random.choice(model.links)
+        spoiled.num = max(1, min(1000, spoiled.num + random.choice((-1, 1))))
+    return model
+
+
+def tight(ports, links, most_weight):
+    """Every connection is met exactly at one a/b by chosen starts, so that every cycle adds up to zero there; a few are then moved."""
+    w = joined_weights(ports, most_weight)
+    b = random.choice((1, 1, 2, 3))
+    a = random.randint(1, 9)
+    start = [random.randint(0, 12) for _ in range(ports)]
+    model = Model([FAST if random.random() < 0.7 else rate() for _ in range(ports)])
+    for _ in range(links):
+        p, q = random.randrange(ports), random.randrange(ports)
+        events = random.randint(-4, 2)
+        if (events * w[p] * a) % b:
+            events = b * random.choice((-1, 0, 1))
+        ticks = start[q] - start[p] - events * w[p] * a // b
+        model.links.append(Link(p, q, *scaled(w[p], w[q]), ticks, None if random.random() < 0.15 else events))
+    if model.links and random.random() < 0.4:
+        random.choice(model.links).ticks += random.choice((-1, 1))
+    return model
+
+
+def chain(ports):
+    """A chain with a way back for each link, as through a buffer of few events."""
+    model = Model([rate() for _ in range(ports)])
+    for p in range(ports - 1):
+        model.links.append(Link(p, p + 1, ticks=random.randint(0, 50)))
+        model.links.append(Link(p + 1, p, ticks=random.randint(0, 5), events=-random.randint(1, 8)))
+        if random.random() < 0.3:
+            model.links.append(Link(p, p + 1, ticks=random.randint(0, 50), events=None))
+    return model
+
+
+def long_chain(ports):
+    """Ratios of 1000/1 and back, whose products far outgrow a machine integer; the last link closes the loop, almost or exactly."""
+    order = list(range(ports))
+    random.shuffle(order)
+    model, value = Model([Port() for _ in range(ports)]), 0
+    for p, q in zip(order, order[1:]):
+        up = random.random() < 0.5
+        value += 1 if up else -1
+        model.links.append(Link(p, q, 1000, 1) if up else Link(p, q, 1, 1000))
+    kind = random.randrange(4)
+    if kind == 1 and abs(value) <= 1:
+        model.links.append(Link(order[-1], order[0], 1000 if value < 0 else 1, 1000 if value > 0 else 1))
+    elif kind == 2:
+        model.links.append(Link(order[-1], order[0], 1000, 999))
+    elif kind == 3:
+        p = random.randrange(ports)
+        model.links.append(Link(p, p, *random.choice(((2, 2), (3, 2), (1000, 1000), (999, 1000)))))
+    return model
+
+
+def small():
+    kind = random.randrange(5)
+    if kind < 2:
+        return tight(random.randint(1, 6), random.randint(0, 12), random.choice((1, 1, 3)))
+    if kind == 2:
+        return random_delays(random.randint(1, 6), random.randint(0, 10), random.choice((1, 1, 6)), 9, 4)
+    if kind == 3:
+        return random_delays(random.randint(1, 5), random.randint(0, 8), 30, 10_000_000, 1000)
+    return random.choice((chain, long_chain))(random.randint(1, 6))
+
+
+def large():
+    kind = random.randrange(5)
+    ports = random.choice((12, 24, 40, 64))
+    if kind == 0:
+        return tight(ports, random.randint(ports, 4 * ports), random.choice((1, 1, 4)))
+    if kind == 1:
+        return random_delays(ports, random.randint(0, ports), random.choice((1, 10)), 1000, 40)
+    if kind == 2:
+        model = random_delays(ports, random.randint(ports, 4 * ports), 1, 1000, 90)
+        for link in model.links:
+            if link.events is not None:
+                link.events = -abs(link.events)
+        return model
+    if kind == 3:
+        return chain(ports)
+    return long_chain(ports)
+
+
+def faulty_record(ports):
+    """The bytes of a record with a fault behind so many ports, or of a part of one."""
+    kind = random.randrange(8)
+    port = random.randrange(max(ports, 1))
+    if kind == 0:
+        return random.choice((b'\x06', b'\x01\x00', b'\x00\x00\x01\x00', b'\x07\x01\x01\x00'))
+    if kind == 1:
+        return record(random.choice((0, 4, 5, 16, 256, 65535)), bytes(random.randrange(20)))
+    if kind == 2:
+        return record(random.randint(1, 3), bytes(random.choice((0, 3, 5, 11, 13, 15, 17))))
+    if kind == 3:
+        return port_bytes(Port(*random.choice(((0, 1), (1, 0), (1001, 1), (1, 65535)))))
+    link = Link(port, port, events=random.choice((0, None)))
+    if kind == 4:
+        link.start = ports + random.randrange(3)
+    elif kind == 5:
+        link.den = random.choice((0, 1001))
+    elif kind == 6:
+        link.ticks = random.choice((10_000_001, -10_000_001, -2 ** 31, 2 ** 31 - 1))
+    else:
+        link.events = random.choice((1001, -1001, -2 ** 31))
+    return link_bytes(link)
+
+
+def spoiled(records, ports):
+    """The bytes of records with a faulty one among them, with one of them again elsewhere, or with other bytes; links name so many ports."""
+    records = list(records)
+    at = random.randrange(len(records) + 1)
+    kind = random.randrange(6) if records else 0
+    if kind < 3:
+        records.insert(at, faulty_record(ports))
+    elif kind == 3:
+        records.insert(at, random.choice(records))
+    given = bytearray(b''.join(records))
+    if kind == 4:
+        del given[random.randrange(len(given)):]
+    elif kind == 5:
+        given[random.randrange(len(given))] = random.randrange(256)
+    return bytes(given)
+
+
+def faulty_table(model):
+    return spoiled([*map(port_bytes, model.ports), *map(link_bytes, model.links)], len(model.ports))
