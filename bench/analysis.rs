@@ -1,9 +1,13 @@
 //! The analysis of document 01 in ordinary Rust, apart from the parts in which its two implementations differ.
 
 use crate::answers;
-use crate::model::{each, read, Components, Fault, Model, Port, MOST_PORTS};
+use crate::model::{each, read, Components, Fault, Model, Port, MOST_EVENTS, MOST_PORTS, MOST_WEIGHT};
 
 const LEAST_ANSWER: usize = 5_120;
+
+/// A cycle has at most this D, above zero or below. At 1 divided by more than this, E decides whether it is positive, and D where E is 0:
+/// as at every a/b between there and zero.
+const MOST_D: u32 = MOST_PORTS as u32 * MOST_EVENTS as u32 * MOST_WEIGHT as u32;
 
 /// The parts in which the implementations differ.
 pub trait Method {
@@ -86,10 +90,11 @@ pub fn gcd(mut x: u32, mut y: u32) -> u32 {
     x
 }
 
-/// The limit that a/b is.
+/// What stands under every period: the limit that a/b is, or zero.
 pub enum Floor {
     Port(usize),
     Cycle(Vec<u16>),
+    Zero,
 }
 
 /// Why a component has no period.
@@ -135,40 +140,50 @@ fn decide<M: Method>(model: &Model, answer: &mut [u8]) -> (u64, usize) {
     }
     let mut timing = Timing { periods: [Period { a: 0, b: 0 }; MOST_PORTS], starts: [0; MOST_PORTS] };
     let mut method = M::new(model, &weighed);
+    let mut all_least = true;
     for name in weighed.components.names(model.ports.len()) {
         let members = weighed.components.members(name);
         method.choose(members);
-        let (port, limit) = greatest_limit(model, &weighed.weights, members);
-        match least_period(&mut method, port, limit, &mut timing.starts) {
-            Ok(period) => timing.periods[name] = period,
+        let limit = greatest_limit(model, &weighed.weights, members);
+        match least_period(&mut method, limit, &mut timing.starts) {
+            Ok(Some(period)) => timing.periods[name] = period,
+            // a later component may have no period at all, and that comes first
+            Ok(None) => all_least = false,
             Err(blocked) => return (15, answers::write_blocked(answer, &blocked)),
         }
+    }
+    if !all_least {
+        return (17, 0);
     }
     (0, answers::write_consistent(answer, model, &weighed, &timing))
 }
 
-/// The greatest of the rate limits, denominator over numerator times weight, and its port.
-fn greatest_limit(model: &Model, weights: &[u64; MOST_PORTS], members: u64) -> (usize, Period) {
-    let (mut port, mut a, mut b) = (0, 0, 1);
+/// The greatest of the rate limits, denominator over numerator times weight, and its port; none where no port has a rate.
+fn greatest_limit(model: &Model, weights: &[u64; MOST_PORTS], members: u64) -> Option<(usize, Period)> {
+    let mut greatest = None;
+    let (mut a, mut b) = (0, 1);
     for p in each(members) {
         let Port { num, den } = model.ports[p];
         let (limit_a, limit_b) = (u64::from(den), u64::from(num) * weights[p]);
+        // 0/0 is above nothing
         if limit_a * b > a * limit_b {
-            (port, a, b) = (p, limit_a, limit_b);
+            (greatest, a, b) = (Some(p), limit_a, limit_b);
         }
     }
-    (port, Period::reduced(a as u32, b as u32))
+    greatest.map(|port| (port, Period::reduced(a as u32, b as u32)))
 }
 
-/// The least a/b of a component, from the rate limit of a port on; its least starts, times b, in starts.
+/// The least a/b of a component, from the rate limit of a port or from zero on, or none where each has a smaller one below it; its least
+/// starts, times b, in starts.
 fn least_period<M: Method>(
     method: &mut M,
-    port: usize,
-    limit: Period,
+    limit: Option<(usize, Period)>,
     starts: &mut [i64; MOST_PORTS],
-) -> Result<Period, Blocked> {
-    let mut period = limit;
-    let mut floor = Floor::Port(port);
+) -> Result<Option<Period>, Blocked> {
+    let (mut floor, mut period) = match limit {
+        Some((port, period)) => (Floor::Port(port), period),
+        None => (Floor::Zero, Period { a: 1, b: MOST_D + 1 }),
+    };
     while let Err(cycle) = method.settle(period, starts) {
         if cycle.events >= 0 {
             return Err(Blocked { floor, block: cycle.links });
@@ -177,5 +192,8 @@ fn least_period<M: Method>(
         period = Period::reduced(cycle.ticks as u32, -cycle.events as u32);
         floor = Floor::Cycle(cycle.links);
     }
-    Ok(period)
+    Ok(match floor {
+        Floor::Zero => None,
+        Floor::Port(_) | Floor::Cycle(_) => Some(period),
+    })
 }

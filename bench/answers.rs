@@ -8,11 +8,15 @@ pub fn write_loop(answer: &mut [u8], steps: &[Step]) -> usize {
     write_numbers(answer, 18, steps.len() * 2, steps.iter().flat_map(|step| [step.link, u16::from(step.against)]))
 }
 
+/// Stands for a port in the floor zero.
+const NO_PORT: u16 = 65_535;
+
 /// The floor, kind 20 or 19, and the block, kind 19.
 pub fn write_blocked(answer: &mut [u8], blocked: &Blocked) -> usize {
     let floor = match &blocked.floor {
         Floor::Port(port) => write_numbers(answer, 20, 1, std::iter::once(*port as u16)),
         Floor::Cycle(cycle) => write_cycle(answer, cycle),
+        Floor::Zero => write_numbers(answer, 20, 1, std::iter::once(NO_PORT)),
     };
     floor + write_cycle(&mut answer[floor..], &blocked.block)
 }

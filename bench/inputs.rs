@@ -150,12 +150,24 @@ fn random_rate(random: &mut Random) -> (u16, u16) {
 }
 
 fn random_rates(random: &mut Random, ports: usize) -> Model {
-    let links = Vec::new();
-    if random.percent(50) {
-        return Model { ports: vec![(1_000, 1); ports], links };
-    }
-    Model { ports: (0..ports).map(|_| random_rate(random)).collect(), links }
+    let is_fast = random.percent(50);
+    let ports = (0..ports).map(|_| if is_fast { (1_000, 1) } else { random_rate(random) }).collect();
+    let mut model = Model { ports, links: Vec::new() };
+    take_rates(random, &mut model);
+    model
 }
+
+/// Takes the rates from a third of all ports: from none of a model, from some, or from all.
+fn take_rates(random: &mut Random, model: &mut Model) {
+    let chance = random.pick(&[0, 0, 33, 33, 100]);
+    for port in &mut model.ports {
+        if random.percent(chance) {
+            *port = NO_RATE;
+        }
+    }
+}
+
+const NO_RATE: (u16, u16) = (0, 0);
 
 fn random_weights(random: &mut Random, ports: usize) -> Vec<u16> {
     let most = random.pick(&[1, 1, 2, 4, 12, 30, 1_000]);
@@ -297,12 +309,14 @@ fn greatest(random: &mut Random, ports: usize, links: usize) -> Model {
         let (ticks, events) = (random.within(-10_000_000, 10_000_000), random.within(-1_000, most_events));
         model.links.push(Link { ratio: (tens[from], tens[to]), ..connection(from, to, ticks, events) });
     }
+    take_rates(random, &mut model);
     model
 }
 
 /// Ratios of 1000/1 and back, whose products outgrow every machine integer; the last link closes a loop, exactly or almost.
 fn long_products(random: &mut Random, ports: usize) -> Model {
     let mut model = Model::new(ports, (1, 1));
+    take_rates(random, &mut model);
     let mut height = 0;
     for p in 1..ports {
         let up = random.percent(50);
@@ -325,7 +339,7 @@ fn long_products(random: &mut Random, ports: usize) -> Model {
 /// Fields at and just past their limits, and one port, link or weight too many.
 fn edge_model(random: &mut Random) -> Model {
     let mut model = random_model(random);
-    match random.below(10) {
+    match random.below(11) {
         0 => model.ports = vec![(1, 1); random.pick(&[64, 65])],
         1 => {
             let link = connection(0, 0, 0, -1);
@@ -333,7 +347,7 @@ fn edge_model(random: &mut Random) -> Model {
         }
         2 => {
             let port = random.below(model.ports.len());
-            model.ports[port] = random.pick(&[(0, 1), (1, 0), (1_000, 1_000), (1_001, 1), (1, 1_001)]);
+            model.ports[port] = random.pick(&[NO_RATE, (0, 1), (1, 0), (0, 1_000), (1_000, 1_000), (1_001, 1), (1, 1_001)]);
         }
         3 => {
             let weights = random.pick(&[[1_000, 100, 10], [1_000, 101, 10], [999, 1_000, 7]]);
@@ -352,7 +366,8 @@ fn edge_model(random: &mut Random) -> Model {
                 5 => link.to = random.pick(&[model.ports.len() - 1, model.ports.len(), 256]),
                 6 => link.ratio.0 = random.pick(&[0, 1_000, 1_001]),
                 7 => link.ratio.1 = random.pick(&[0, 1_000, 65_535]),
-                8 => link.ticks = random.pick(&[-10_000_001, -10_000_000, 10_000_000, 10_000_001, i32::MIN]),
+                8 => link.ratio = (0, 0),
+                9 => link.ticks = random.pick(&[-10_000_001, -10_000_000, 10_000_000, 10_000_001, i32::MIN]),
                 _ => link.events = link.events.map(|_| random.pick(&[-1_001, -1_000, 1_000, 1_001, i32::MAX])),
             }
         }

@@ -19,6 +19,7 @@ use join::Joined;
 use std::hint::black_box;
 use std::process::exit;
 use std::time::Instant;
+use validate::Shown;
 
 type Analyse = fn(&[u8], &mut [u8]) -> Outcome;
 type Join = fn(&[u8], &[u8], &[u8], &mut [u8]) -> Joined;
@@ -45,13 +46,14 @@ fn main() {
 
 fn compare() {
     let mut random = inputs::Random::new(SEED);
-    let mut counts = [0; 16];
-    let (mut free, mut same) = (0, 0);
+    let mut counts = [0; 18];
+    let (mut free, mut same, mut zero_floors) = (0, 0, 0);
     for _ in 0..COMPARED {
         let (table, room) = inputs::random_input(&mut random);
         match same_answer(&table, room) {
             Ok(agreed) => {
                 counts[agreed.number as usize] += 1;
+                zero_floors += usize::from(agreed.zero_floor);
                 if let Some(same_records) = agreed.same_records {
                     free += 1;
                     same += usize::from(same_records);
@@ -66,9 +68,11 @@ fn compare() {
     println!("compared: {COMPARED} inputs, no difference in number, place, bytes written or any byte of the answer buffer");
     println!("between proved, ordinary and in place; for 13 and 15, where which records are shown is free, each side's were");
     println!("checked instead, and proved and ordinary show the same ones in {same} of {free} cases");
-    for (number, count) in counts.iter().enumerate() {
+    // 16 is of joins
+    for (number, count) in counts.iter().enumerate().filter(|&(number, _)| number != 16) {
         println!("  answer {number:2}: {count:6}");
     }
+    println!("  of 15, proved shows the floor zero: {zero_floors}");
 }
 
 fn hex(bytes: &[u8]) -> String {
@@ -146,6 +150,8 @@ struct Agreed {
     number: u64,
     /// where which records are shown is free, whether the first two sides show the same
     same_records: Option<bool>,
+    /// whether the first side shows the floor zero
+    zero_floor: bool,
 }
 
 /// What all sides answer, or how they differ.
@@ -166,6 +172,7 @@ fn same_answer(table: &[u8], room: usize) -> Result<Agreed, String> {
         let said = |answered: &Answered| format!("{} answers {} at {}", answered.side, answered.number, answered.place);
         return Err(format!("{}, {}", said(proved), said(other)));
     }
+    let mut zero_floor = false;
     match proved.number {
         13 => {
             for Answered { side, written, .. } in &sides {
@@ -173,13 +180,15 @@ fn same_answer(table: &[u8], room: usize) -> Result<Agreed, String> {
             }
         }
         15 => {
-            let mut components = Vec::with_capacity(sides.len());
+            let mut shown = Vec::with_capacity(sides.len());
             for Answered { side, written, .. } in &sides {
-                components.push(validate::check_blocked(table, written).map_err(|why| format!("{side} shows {why}"))?);
+                shown.push(validate::check_blocked(table, written).map_err(|why| format!("{side} shows {why}"))?);
             }
+            let components: Vec<usize> = shown.iter().map(|&Shown { component, .. }| component).collect();
             if components.iter().any(|&component| component != components[0]) {
                 return Err(format!("answer 15: the sides show components {components:?}"));
             }
+            zero_floor = shown[0].zero_floor;
         }
         number => {
             if let Some(other) = sides.iter().find(|other| other.written != proved.written) {
@@ -188,7 +197,7 @@ fn same_answer(table: &[u8], room: usize) -> Result<Agreed, String> {
         }
     }
     let is_free = matches!(proved.number, 13 | 15);
-    Ok(Agreed { number: proved.number, same_records: is_free.then(|| proved.written == sides[1].written) })
+    Ok(Agreed { number: proved.number, same_records: is_free.then(|| proved.written == sides[1].written), zero_floor })
 }
 
 fn time() {

@@ -7,7 +7,7 @@ pub const MOST_TICKS: i32 = 10_000_000;
 pub const MOST_EVENTS: i32 = 1_000;
 pub const MOST_WEIGHT: u64 = 10_000;
 
-/// The parts of a port's maximum rate.
+/// The parts of a port's maximum rate, 0 and 0 where it has none.
 #[derive(Clone, Copy)]
 pub struct Port {
     pub num: u16,
@@ -213,7 +213,7 @@ fn read_record(rest: &[u8], behind: Behind, taker: &mut impl Taker) -> Result<us
 
 fn read_port(record: &[u8; 6]) -> Result<Port, u64> {
     let (num, den) = (u16_at(record, 2), u16_at(record, 4));
-    if !is_part(num) || !is_part(den) {
+    if (num, den) != (0, 0) && !(is_part(num) && is_part(den)) {
         return Err(8);
     }
     Ok(Port { num, den })

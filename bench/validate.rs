@@ -11,7 +11,7 @@ struct Link {
 }
 
 struct Model {
-    /// numerator and denominator of the rates
+    /// numerator and denominator of the rates, 0 and 0 where there is none
     ports: Vec<(i64, i64)>,
     links: Vec<Link>,
 }
@@ -119,8 +119,15 @@ fn check_closed(steps: &[(usize, usize, usize)]) -> Result<(), String> {
     Ok(())
 }
 
-/// Number 15: a floor and a block of one component, the block with D zero or more and positive at the floor. Answers the component.
-pub fn check_blocked(table: &[u8], written: &[u8]) -> Result<usize, String> {
+/// What 15 shows: the lowest port of the component, and of the floor whether it is zero.
+pub struct Shown {
+    pub component: usize,
+    pub zero_floor: bool,
+}
+
+/// Number 15: a floor and a block of one component, the block with D zero or more and positive at the floor; above the floor zero, which only
+/// a component without a rate has, positive everywhere.
+pub fn check_blocked(table: &[u8], written: &[u8]) -> Result<Shown, String> {
     let model = read(table);
     let records = records(written)?;
     let [(floor_kind, floor), (19, block)] = &records[..] else {
@@ -132,16 +139,29 @@ pub fn check_blocked(table: &[u8], written: &[u8]) -> Result<usize, String> {
     if block_events < 0 {
         return Err("a block with D below zero".into());
     }
+    let component = weights.iter().position(|&w| w > 0).unwrap();
     let (a, b) = match (floor_kind, &floor[..]) {
+        (20, &[65_535]) => {
+            if model.ports.iter().zip(&weights).any(|(&(num, _), &w)| num > 0 && w > 0) {
+                return Err("the floor zero of a component with a rate".into());
+            }
+            if block_ticks < 0 || block_ticks == 0 && block_events == 0 {
+                return Err("a block that is not positive everywhere above zero".into());
+            }
+            return Ok(Shown { component, zero_floor: true });
+        }
         (20, &[port]) if port < model.ports.len() => {
             let (num, den) = model.ports[port];
+            if num == 0 {
+                return Err("a floor of a port without a rate".into());
+            }
             (den, num * weights[port])
         }
         (19, cycle) => {
             cycle_port(&model, cycle)?;
             let (ticks, events) = sums(&model, &weights, cycle)?;
-            if events >= 0 {
-                return Err("a floor with D of zero or more".into());
+            if ticks <= 0 || events >= 0 {
+                return Err("a floor that is no lower limit above zero".into());
             }
             (ticks, -events)
         }
@@ -154,7 +174,7 @@ pub fn check_blocked(table: &[u8], written: &[u8]) -> Result<usize, String> {
     if i128::from(block_ticks) * i128::from(b) + i128::from(block_events) * i128::from(a) <= 0 {
         return Err("a block that is not positive at the floor".into());
     }
-    Ok(weights.iter().position(|&w| w > 0).unwrap())
+    Ok(Shown { component, zero_floor: false })
 }
 
 /// Checks that the links are connections and form a cycle, and answers a port of it.

@@ -21,7 +21,7 @@ extern "C" {
 #define VUNDAYRE_TABLE_BYTES 5632
 
 struct vundayre_outcome {
-    /* Document 01's number: 0 is consistent, 1 to 15 are refusals. */
+    /* Document 01's number: 0 is consistent; 1 to 15, and 17, periods but no least, are refusals. */
     uint64_t number;
     /* Of 2 to 11 the byte of the table at which the faulty record begins, counted from 0; of every other number 0. */
     size_t place;
@@ -32,9 +32,10 @@ struct vundayre_outcome {
 /*
  * Analyses the table of table_bytes bytes, any bytes at all.
  *
- * Numbers 1 to 12 and 14 write nothing. 0 writes a record for each port, then one for each buffer; 13 writes a loop; 15 a floor and a
- * block. Bytes of the answer buffer past the written ones keep what they held. Neither pointer may be null, also where the length is 0, and
- * the two buffers may not overlap. It keeps nothing between calls and may be called from several threads.
+ * Numbers 1 to 12, 14 and 17 write nothing. 0 writes a record for each port, then one for each buffer; 13 writes a loop; 15 a floor and a
+ * block; the floor's port is 65535 where the floor is zero, which is so only where no port of the component has a rate (0/0). Bytes of the
+ * answer buffer past the written ones keep what they held. Neither pointer may be null, also where the length is 0, and the two buffers may
+ * not overlap. It keeps nothing between calls and may be called from several threads.
  */
 struct vundayre_outcome vundayre_analyse(const uint8_t *table, size_t table_bytes, uint8_t *answer, size_t answer_bytes);
 

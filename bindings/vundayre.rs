@@ -23,7 +23,7 @@ struct Outcome {
 
 /// What the check says of a table.
 pub struct Answer<'a> {
-    /// Document 01's number: 0 is consistent, 1 to 15 are refusals.
+    /// Document 01's number: 0 is consistent; 1 to 15, and 17, periods but no least, are refusals.
     pub number: u64,
     /// Of 2 to 11 the byte of the table at which the faulty record begins, counted from 0; of every other number 0.
     pub place: usize,
@@ -68,7 +68,8 @@ unsafe extern "C" {
 
 /// Analyses a table, any bytes at all.
 ///
-/// Numbers 1 to 12 and 14 write nothing. Bytes of `answer` past the records keep what they held.
+/// Numbers 1 to 12, 14 and 17 write nothing. The port of a floor that 15 shows is 65535 where the floor is zero, which is so only where no port
+/// of the component has a rate (0/0). Bytes of `answer` past the records keep what they held.
 pub fn analyse<'a>(table: &[u8], answer: &'a mut [u8]) -> Answer<'a> {
     // SAFETY: the pointers of slices are never null, and a shared and a mutable slice never overlap.
     let outcome = unsafe { vundayre_analyse(table.as_ptr(), table.len(), answer.as_mut_ptr(), answer.len()) };

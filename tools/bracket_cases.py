@@ -14,9 +14,8 @@ from joiner import join, moved
 from model import Model, link_bytes, port_bytes
 from programs import answers, built, joins
 from random_models import large, small
-from reader import Before, first_fault, read_run
-from solver import analyse, answer_line, printed
-from table_text import read_text, text_of
+from reader import Before, read_run
+from separate import separate_answer
 
 TRIPLES = 500
 
@@ -87,12 +86,6 @@ def said(answer):
     """The number of an answer, and its port lines."""
     lines = answer.splitlines()
     return lines[0].split()[1], [line for line in lines if line.startswith('port ')]
-
-
-def separate_answer(table):
-    """What is due of a table, by the separate reader and solver; of 13 and 15 only the first line."""
-    number, place = first_fault(table)
-    return answer_line(number, place) if number else printed(*analyse(read_text(text_of(table))))
 
 
 def main():

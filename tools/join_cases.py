@@ -13,7 +13,7 @@ from collections import Counter
 from joiner import join
 from model import Link, Model, Port, buffer, connection, link_bytes, port, port_bytes, record, table_bytes
 from programs import BASE, built, joins_input, output
-from random_models import spoiled
+from random_models import UNRATED, spoiled
 from table_text import MOST_EVENTS, MOST_TICKS
 
 FILL = b'\xa5'
@@ -24,6 +24,8 @@ RANDOM_JOINS = 3_000
 BYTE, OTHER, SHORT_PORT, SHORT_CONNECTION = b'\x06', record(4, b'1234'), record(1, b''), record(2, b'12')
 TWO = port() * 2 + connection(0, 1, ticks=3)
 ONE = port(1, 5) + buffer(ticks=4)
+# a port without a rate (change request F-3)
+FREE = port(0, 0) + connection(ticks=1, events=-1)
 
 # For each number, what stands before a faulty record of a table, and the record. From and to go by the table's own ports.
 TABLE_FAULTS = [
@@ -31,11 +33,12 @@ TABLE_FAULTS = [
     (2, port(), b'\x01\x00\x01\x00'), (3, port(), OTHER), (4, port(), SHORT_CONNECTION), (5, ONE, port()), (8, port(), port(1, 1001)),
     (9, port(), connection(0, 1)), (9, port() * 2 + buffer(1, 0), buffer(2, 0)), (10, port(), buffer(den=0)), (10, ONE, connection(num=1001)),
     (11, port(), connection(ticks=10_000_001)), (11, ONE, connection(events=-1001)), (11, ONE, buffer(ticks=-10_000_001)),
+    (8, port(0, 0), port(0, 1000)), (8, port(0, 0) * 2, port(1, 0)), (10, port(0, 0), buffer(num=0, den=0)),
 ]
 # The same of the records that are added to three ports.
 ADDED_FAULTS = [
     (2, b'', BYTE), (3, b'', OTHER), (4, b'', SHORT_PORT), (5, b'', port()), (9, b'', connection(0, 3)), (10, b'', buffer(0, 2, num=0)),
-    (11, b'', connection(2, 0, ticks=-10_000_001)), (5, b'', port(0, 1)),
+    (11, b'', connection(2, 0, ticks=-10_000_001)), (5, b'', port(0, 1)), (5, b'', port(0, 0)), (10, connection(2, 0), connection(num=0, den=0)),
     *[(number, connection(2, 0) + buffer(0, 2), faulty) for number, faulty in (
         (2, b'\x12\x00\x02'), (3, OTHER), (4, SHORT_PORT), (4, SHORT_CONNECTION), (5, port()), (9, buffer(3, 0)), (10, connection(den=1001)),
         (11, connection(events=1001)))],
@@ -47,6 +50,9 @@ FIXED = [
     # no records in some inputs, or in none
     (b'', b'', b'', 0, 0, 0), (TWO, b'', b'', 0, 0, 0), (b'', TWO, b'', 0, 0, 0), (TWO, ONE, b'', 0, 0, 0),
     (TWO, b'', connection(1, 0), 0, 0, 0), (b'', TWO, connection(1, 0), 0, 0, 0), (b'', b'', connection(), 9, 0, 3),
+    # ports without a rate in the first table, the second and both
+    (FREE, ONE, connection(0, 1), 0, 0, 0), (ONE, FREE, connection(0, 1), 0, 0, 0), (FREE, FREE, b'', 0, 0, 0),
+    (port(0, 0) * 32, port(0, 0) * 32, buffer(63, 0), 0, 0, 0), (port(0, 0) * 63, port(0, 0) * 2, b'', 6, 8, 2),
     # each number in each input
     *[(before + faulty + port(), ONE, connection(), number, len(before), 1) for number, before, faulty in TABLE_FAULTS],
     *[(TWO, before + faulty, connection(), number, len(before), 2) for number, before, faulty in TABLE_FAULTS],
@@ -129,7 +135,8 @@ def delay(most):
 
 
 def random_ports(count):
-    return [port_bytes(Port(part(), part())) for _ in range(count)]
+    """A third of them have no rate."""
+    return [port_bytes(UNRATED if random.random() < 1 / 3 else Port(part(), part())) for _ in range(count)]
 
 
 def random_links(count, ports):

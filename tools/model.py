@@ -6,8 +6,13 @@ from typing import List, Optional
 
 @dataclass
 class Port:
+    """A port, by the parts of its maximum rate; 0/0 means that it has none (change request F-3)."""
     num: int = 1
     den: int = 1
+
+    @property
+    def is_rated(self):
+        return self.num > 0
 
 
 @dataclass

@@ -1,24 +1,28 @@
 #!/usr/bin/env python3
 """Writes crates/models/stdin and stdout: tables that the program `models` is run on, and what it prints of them.
 
-The tables are those of the examples, models at the edges, random models, one or more for each number without a model, and random models with
-a fault in their bytes. What the program prints is checked, answer by answer, before it is written: number and lines by the exact solver of
-solver.py, number and place of a fault by reader.py, or as said here beside the table; the loop, floor or block that is shown, which is free,
-by shown.py. Where an answer is wrong nothing is written, and the status is 1."""
+The tables are those of the examples, models at the edges, those without rates among them, random models, one or more for each number without
+a model, and random models with a fault in their bytes. What the program prints is checked, answer by answer, before it is written: number and
+lines by the exact solver of solver.py, number and place of a fault by reader.py, and both by what is said here beside some tables; the loop,
+floor or block that is shown, which is free, by shown.py. Where an answer is wrong, or some number or kind of floor does not occur, nothing is
+written, and the status is 1."""
 import argparse
 import glob
 import os
 import random
 import sys
 from collections import Counter
+from fractions import Fraction
 
 from joiner import join
 from model import Link, Model, Port, link_bytes, port_bytes, record, table_bytes
 from programs import BASE, answers, built, tables_input
-from random_models import FAST, faulty_table, large, small
+from random_models import FAST, UNRATED, faulty_table, large, small
+from ratios import weights
 from reader import first_fault
+from separate import separate_answer
 from shown import Wrong, check_blocked, check_loop
-from solver import analyse, answer_line, printed
+from solver import answer_line, numbers_by_component, printed
 from table_text import read_text, text_of
 
 random.seed(20261115)
@@ -41,6 +45,7 @@ REFUSED = [
     (port_bytes(Port(0, 1)), 'answer 8 at 0\n'),
     (PORT + link_bytes(Link(0, 1)), 'answer 9 at 8\n'),
     (PORT + link_bytes(Link(0, 0, 1, 0)), 'answer 10 at 8\n'),
+    (port_bytes(UNRATED) + link_bytes(Link(0, 0, 0, 0)), 'answer 10 at 8\n'),
     (PORT * 2 + CONNECTION + link_bytes(Link(0, 1, ticks=10_000_001)), 'answer 11 at 36\n'),  # change request F-1
     (b'', 'answer 12 at 0\n'),
     # the latest places, with bytes behind them up to 65,536
@@ -62,17 +67,86 @@ EDGES = [
     Model([Port()] * 64, [Link(p % 64, (p + 1) % 64, 1, 1, 10_000_000, -1000) for p in range(256)]),
     Model([Port()] * 64, [Link(p, p, 1, 1, 1, -1) for p in range(64)] * 4),
     Model([Port()] * 64, [Link(p % 64, (p * 7 + 3) % 64, 1, 1, p, None) for p in range(256)]),
+    Model([UNRATED] * 64, [Link(p, (p + 1) % 64, events=int(p == 63)) for p in range(64)]),                     # E 0, D 1
+    Model([UNRATED] * 2, [Link(0, 1, ticks=5), Link(1, 0, ticks=-5, events=1), Link(0, 0, ticks=1, events=-2)]),  # a limit, and a block above zero
+]
+
+NO_LEAST = 'answer 17 at 0\n'
+
+
+def blocked(floor, block):
+    return f'answer 15 at 0\nfloor {floor}\nblock {block}\n'
+
+
+def alone(*delays):
+    """A port without a rate, joined to itself by connections with these ticks and events."""
+    return Model([UNRATED], [Link(0, 0, ticks=ticks, events=events) for ticks, events in delays])
+
+
+def ring(heavy, light=()):
+    """Ports without a rate of these weights, and what is printed. The heavy ones are in a ring with ε 1 once and δ −1,000 everywhere, so that a/b
+    is 1 divided by the sum of their weights and by 1,000; buffers lead from the first to a chain of the light ones."""
+    w, one_over = [*heavy, *light], 1_000 * sum(heavy)
+    ends = [(p, (p + 1) % len(heavy)) for p in range(len(heavy))]
+    model = Model([UNRATED] * len(w), [Link(p, q, *Fraction(w[p], w[q]).as_integer_ratio(), int(p == 0), -1_000) for p, q in ends])
+    buffers = [(p - 1 if p > len(heavy) else 0, p) for p in range(len(heavy), len(w))]
+    model.links += [Link(p, q, *Fraction(w[p], w[q]).as_integer_ratio(), events=None) for p, q in buffers]
+    starts = [1 - Fraction(1_000 * sum(heavy[:p]), one_over) if 0 < p < len(heavy) else Fraction(0) for p in range(len(w))]
+    ports = [(0, weight, Fraction(weight, one_over), start) for weight, start in zip(w, starts)]
+    return model, printed(0, ports, [(n, 0) for n in range(len(heavy), len(w))])
+
+
+# The weights of a cycle with D as far from zero as we found: 64 up to 10,000 without a common divisor, each to the next with parts to 1,000.
+HEAVIEST = [10_000] * 61 + [9_984, 9_997, 9_984]
+
+
+def turned_ring():
+    """The heaviest ring with E −1 and D above zero."""
+    model, _ = ring(HEAVIEST)
+    for link in model.links:
+        link.ticks, link.events = -link.ticks, -link.events
+    return model
+
+
+# Ports without a rate of their own (change request F-3), each model with what is printed of it.
+WITHOUT_RATE = [
+    (alone(), NO_LEAST),
+    (alone((0, 0)), NO_LEAST),
+    (alone((0, -1)), NO_LEAST),
+    (alone((-1, 1000)), NO_LEAST),
+    (alone((0, 1)), blocked('zero', 0)),
+    (alone((1, 0)), blocked('zero', 0)),
+    (alone((1, -1000)), 'answer 0\nport 0 component 0 weight 1 period 1/1000 start 0/1\n'),
+    (alone((7, -1), (-5, 1)), blocked('cycle 0', 1)),                                                           # F
+    (Model([UNRATED] * 2, [Link(0, 1, ticks=3), Link(1, 0, events=-2), Link(1, 0, ticks=4, events=None)]),      # A
+     'answer 0\nport 0 component 0 weight 1 period 3/2 start 0/1\nport 1 component 0 weight 1 period 3/2 start 3/1\nbuffer 2 size 5\n'),
+    (Model([UNRATED, Port()], [Link(0, 1)]),
+     'answer 0\nport 0 component 0 weight 1 period 1/1 start 0/1\nport 1 component 0 weight 1 period 1/1 start 0/1\n'),
+    (Model([UNRATED, Port()], [Link(1, 1, ticks=1)]), blocked('port 1', 0)),                                    # not 17
+    (Model([UNRATED, Port()]), NO_LEAST),
+    *[(Model([Port(*parts)]), 'answer 8 at 0\n') for parts in ((0, 1), (1, 0), (0, 1000))],
+    ring([10_000] * 62, [10, 1]),
+    # close to zero: D far below zero, and above
+    ring(HEAVIEST),
+    (turned_ring(), NO_LEAST),
+    # 15 before 17 wherever the components stand, and the lowest without a period, not the lowest without a least
+    (Model([UNRATED] * 2, [Link(0, 0, ticks=1)]), blocked('zero', 0)),
+    (Model([UNRATED] * 2, [Link(1, 1, ticks=1)]), blocked('zero', 0)),
+    (Model([UNRATED, Port(), UNRATED], [Link(2, 2, events=1), Link(1, 1, ticks=1)]), blocked('port 1', 1)),
+    (Model([UNRATED, UNRATED, Port()], [Link(2, 2, ticks=1), Link(1, 1, events=1)]), blocked('zero', 1)),
+    # a buffer joins a port to the rate of another
+    (Model([UNRATED, Port(1, 5)], [Link(0, 1, events=None)]),
+     'answer 0\nport 0 component 0 weight 1 period 5/1 start 0/1\nport 1 component 0 weight 1 period 5/1 start 0/1\nbuffer 0 size 0\n'),
 ]
 
 
 def faulty_tables(count):
-    """So many random tables with a fault, each with what is printed of it."""
+    """So many random tables with a fault."""
     tables = []
     while len(tables) < count:
         table = faulty_table(large() if random.random() < 0.1 else small())
-        number, place = first_fault(table)
-        if number:
-            tables.append((f'fault {len(tables)}', table, None, answer_line(number, place)))
+        if first_fault(table)[0]:
+            tables.append((f'fault {len(tables)}', table, None, None))
     return tables
 
 
@@ -99,7 +173,7 @@ def examples():
 
 def faulty_examples():
     """The examples that no text can say."""
-    return ((name, table, None, answer_line(*first_fault(table))) for name, table in example_files('.table'))
+    return ((name, table, None, None) for name, table in example_files('.table'))
 
 
 def check(model, due, text):
@@ -115,11 +189,25 @@ def check(model, due, text):
         raise Wrong(f'{len(lines)} lines follow what is due')
 
 
+# What must occur among the answers: the numbers; the kinds of floor; and 15 where another component has periods but no least.
+OCCUR = [*(f'answer {number}' for number in (0, *range(2, 16), 17, 'long')), 'floor port', 'floor cycle', 'floor zero', '15 beside 17']
+
+
+def kinds(model, text):
+    """What of this occurs in an answer."""
+    yield ' '.join(text.split()[:2])
+    if text.startswith(answer_line(15)):
+        yield ' '.join(text.splitlines()[1].split()[:2])
+        if 17 in numbers_by_component(model, weights(model)[1]).values():
+            yield '15 beside 17'
+
+
 def main():
     options = argparse.ArgumentParser(description='Writes the tables of the program `models`, and what it prints, once that is checked.')
     options.add_argument('--program', default=built('models'), help='the built program')
     program = options.parse_args().program
     cases = [(f'{len(table)} bytes', table, None, due) for table, due in REFUSED]
+    cases += [(f'without rate {n}', table_bytes(model), model, due) for n, (model, due) in enumerate(WITHOUT_RATE)]
     models = [*examples(), *((f'edge {n}', model) for n, model in enumerate(EDGES))]
     models += [(f'small {n}', small()) for n in range(5000)]
     models += [(f'large {n}', large()) for n in range(200)]
@@ -127,21 +215,24 @@ def main():
     cases += [*faulty_examples(), *faulty_tables(2000)]
     tables = [table for _, table, _, _ in cases]
     texts = answers(program, tables)
-    numbers = Counter()
-    for at, (name, _, model, due) in enumerate(cases):
+    counts = Counter()
+    for at, (name, table, model, due) in enumerate(cases):
         try:
-            check(model, due or printed(*analyse(model)), texts[at])
+            if due not in (None, texts[at]):
+                raise Wrong(f'due is {due!a}')
+            check(model, separate_answer(table), texts[at])
             if name.endswith(('.txt', '.table', '.joined')):
                 check_example(name, texts[at])
         except Wrong as why:
             sys.exit(f'table {at} ({name}): {why}; printed is {texts[at]!a}')
-        numbers[texts[at].split()[1]] += 1
+        counts.update(kinds(model, texts[at]))
+    if set(counts) != set(OCCUR):
+        sys.exit(f'not met, or not expected: {sorted(set(counts) ^ set(OCCUR))}')
     folder = os.path.join(BASE, 'crates', 'models')
     with open(os.path.join(folder, 'stdin'), 'wb') as stdin, open(os.path.join(folder, 'stdout'), 'w', encoding='ascii') as stdout:
         stdin.write(tables_input(tables))
         stdout.write(''.join(texts))
-    said = sorted(numbers, key=lambda number: (len(number), number))
-    print(len(cases), 'tables:', ', '.join(f'{numbers[number]} with answer {number}' for number in said))
+    print(len(cases), 'tables:', ', '.join(f'{counts[kind]} with {kind}' for kind in OCCUR))
 
 
 main()

@@ -1,13 +1,25 @@
 """Random models, and tables of them with a fault. The caller sets the seed."""
 import random
+from dataclasses import replace
 
 from model import Link, Model, Port, link_bytes, port_bytes, record
 
 FAST = Port(1000, 1)
+UNRATED = Port(0, 0)
 
 
-def rate():
+def rated_port():
     return Port(*random.choice(((1, 1), (1, 1), (1000, 1), (2, 5), (random.randint(1, 1000), random.randint(1, 1000)))))
+
+
+def mostly_fast():
+    return FAST if random.random() < 0.7 else rated_port()
+
+
+def random_ports(count, rated=rated_port):
+    """A third of all random ports have no rate: none of a model, some, or all."""
+    share = random.choice((0, 0, 1 / 3, 1 / 3, 1))
+    return [UNRATED if random.random() < share else rated() for _ in range(count)]
 
 
 def scaled(num, den):
@@ -23,7 +35,7 @@ def joined_weights(ports, most):
 def random_delays(ports, links, most_weight, most_ticks, most_events):
     """Delays of any sign, most back paths with credit, ratios that agree but for a few."""
     w = joined_weights(ports, most_weight)
-    model = Model([rate() for _ in range(ports)])
+    model = Model(random_ports(ports))
     for _ in range(links):
         p, q = random.randrange(ports), random.randrange(ports)
         ticks, events = random.randint(-most_ticks, most_ticks), random.randint(-most_events, most_events // 3)
@@ -40,7 +52,7 @@ def tight(ports, links, most_weight):
     b = random.choice((1, 1, 2, 3))
     a = random.randint(1, 9)
     start = [random.randint(0, 12) for _ in range(ports)]
-    model = Model([FAST if random.random() < 0.7 else rate() for _ in range(ports)])
+    model = Model(random_ports(ports, mostly_fast))
     for _ in range(links):
         p, q = random.randrange(ports), random.randrange(ports)
         events = random.randint(-4, 2)
@@ -55,7 +67,7 @@ def tight(ports, links, most_weight):
 
 def chain(ports):
     """A chain with a way back for each link, as through a buffer of few events."""
-    model = Model([rate() for _ in range(ports)])
+    model = Model(random_ports(ports))
     for p in range(ports - 1):
         model.links.append(Link(p, p + 1, ticks=random.randint(0, 50)))
         model.links.append(Link(p + 1, p, ticks=random.randint(0, 5), events=-random.randint(1, 8)))
@@ -68,7 +80,7 @@ def long_chain(ports):
     """Ratios of 1000/1 and back, whose products far outgrow a machine integer; the last link closes the loop, almost or exactly."""
     order = list(range(ports))
     random.shuffle(order)
-    model, value = Model([Port() for _ in range(ports)]), 0
+    model, value = Model(random_ports(ports, Port)), 0
     for p, q in zip(order, order[1:]):
         up = random.random() < 0.5
         value += 1 if up else -1
@@ -84,14 +96,26 @@ def long_chain(ports):
     return model
 
 
+def beside(models):
+    """The models in one, unjoined, so that components with and without rates and periods come together."""
+    both = Model()
+    for model in models:
+        base = len(both.ports)
+        both.ports += model.ports
+        both.links += [replace(link, start=link.start + base, end=link.end + base) for link in model.links]
+    return both
+
+
 def small():
-    kind = random.randrange(5)
+    kind = random.randrange(6)
     if kind < 2:
         return tight(random.randint(1, 6), random.randint(0, 12), random.choice((1, 1, 3)))
     if kind == 2:
         return random_delays(random.randint(1, 6), random.randint(0, 10), random.choice((1, 1, 6)), 9, 4)
     if kind == 3:
         return random_delays(random.randint(1, 5), random.randint(0, 8), 30, 10_000_000, 1000)
+    if kind == 4:
+        return beside(tight(random.randint(1, 2), random.randint(0, 5), 1) for _ in range(random.randint(2, 3)))
     return random.choice((chain, long_chain))(random.randint(1, 6))
 
 
@@ -124,12 +148,12 @@ def faulty_record(ports):
     if kind == 2:
         return record(random.randint(1, 3), bytes(random.choice((0, 3, 5, 11, 13, 15, 17))))
     if kind == 3:
-        return port_bytes(Port(*random.choice(((0, 1), (1, 0), (1001, 1), (1, 65535)))))
+        return port_bytes(Port(*random.choice(((0, 1), (1, 0), (0, 65535), (1000, 0), (1001, 1), (1, 65535)))))
     link = Link(port, port, events=random.choice((0, None)))
     if kind == 4:
         link.start = ports + random.randrange(3)
     elif kind == 5:
-        link.den = random.choice((0, 1001))
+        link.num, link.den = random.choice(((1, 0), (0, 0), (1, 1001)))
     elif kind == 6:
         link.ticks = random.choice((10_000_001, -10_000_001, -2 ** 31, 2 ** 31 - 1))
     else:

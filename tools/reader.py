@@ -17,6 +17,11 @@ def are_parts(values):
     return all(1 <= value <= MOST_PART for value in values)
 
 
+def is_rate(values):
+    """0/0 means that a port has no rate (change request F-3)."""
+    return values == (0, 0) or are_parts(values)
+
+
 def record_fault(rest, before):
     """(number, length) of the record at the front of `rest`; number 0 where it has no fault."""
     length = int.from_bytes(rest[:2], 'little')
@@ -29,7 +34,7 @@ def record_fault(rest, before):
         return 4, length
     values = struct.unpack_from(RECORDS[kind, length][0], rest, 4)
     if kind == 1:
-        tests = [(5, not before.port_may_come), (6, before.ports >= MOST_PORTS), (8, not are_parts(values))]
+        tests = [(5, not before.port_may_come), (6, before.ports >= MOST_PORTS), (8, not is_rate(values))]
     else:
         delays = zip(values[4:], (MOST_TICKS, MOST_EVENTS))
         tests = [(7, before.links >= MOST_LINKS), (9, max(values[:2]) >= before.named), (10, not are_parts(values[2:4])),

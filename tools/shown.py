@@ -3,12 +3,13 @@ import re
 from fractions import Fraction
 
 from ratios import components, weights
-from solver import lowest_without_period
+from solver import numbers_by_component
 
 NUMBER = r'(?:0|[1-9][0-9]*)'
 LOOP = rf'loop((?: [+-]{NUMBER})+)'
 FLOOR_PORT = rf'floor port ({NUMBER})'
 FLOOR_CYCLE = rf'floor cycle((?: {NUMBER})+)'
+FLOOR_ZERO = 'floor zero'
 BLOCK = rf'block((?: {NUMBER})+)'
 
 
@@ -67,33 +68,48 @@ def sums(model, w, words):
 
 
 def floor_of(model, w, line):
-    """a/b of the floor, and a port of it."""
+    """a/b of a floor that is a limit, and a port of it."""
     if match := re.fullmatch(FLOOR_PORT, line):
         port = int(match[1])
         if port >= len(model.ports):
             raise Wrong(f'there is no port {port}')
+        if not model.ports[port].is_rated:
+            raise Wrong(f'port {port} has no rate')
         return Fraction(model.ports[port].den, model.ports[port].num * w[port]), port
     if match := re.fullmatch(FLOOR_CYCLE, line):
         ticks, events, port = sums(model, w, match[1])
-        if events >= 0:
-            raise Wrong(f'the floor has D {events}')
+        if events >= 0 or ticks <= 0:
+            raise Wrong(f'the floor has E {ticks} and D {events}')
         return Fraction(ticks, -events), port
     raise Wrong(f'{line!a} is no floor')
 
 
 def check_blocked(model, floor_line, block_line):
-    """Number 15: a floor and a block of the lowest component without a period; the block is positive at the floor."""
+    """Number 15: a floor and a block of the lowest component without a period; the block is positive at the floor. Above the floor zero, which
+    only a component without any rate has, it is positive everywhere (change request F-3)."""
     _, w = weights(model)
-    floor, floor_port = floor_of(model, w, floor_line)
     match = re.fullmatch(BLOCK, block_line)
     if not match:
         raise Wrong(f'{block_line!a} is no block')
     ticks, events, block_port = sums(model, w, match[1])
-    lowest, component = lowest_without_period(model, w), components(model)
-    for what, port in (('floor', floor_port), ('block', block_port)):
+    component = components(model)
+    lowest = next(root for root, number in numbers_by_component(model, w).items() if number == 15)
+
+    def check_component(what, port):
         if component[port] != lowest:
             raise Wrong(f'the {what} is of component {component[port]}, and {lowest} is the lowest without a period')
+
+    check_component('block', block_port)
     if events < 0:
         raise Wrong(f'the block has D {events}')
+    if floor_line == FLOOR_ZERO:
+        rated = [p for p, port in enumerate(model.ports) if component[p] == lowest and port.is_rated]
+        if rated:
+            raise Wrong(f'the floor is zero, and port {rated[0]} has a rate')
+        if ticks < 0 or ticks == events == 0:
+            raise Wrong(f'the block has E {ticks} and D {events}, and is not positive everywhere above zero')
+        return
+    floor, floor_port = floor_of(model, w, floor_line)
+    check_component('floor', floor_port)
     if ticks + events * floor <= 0:
         raise Wrong(f'the block is not positive at {floor}')

@@ -1,6 +1,8 @@
 """The analysis of a model by exact rationals, apart from the proved code: number, port answers and buffer sizes of document 01.
 
-The least a/b comes from all simple cycles where they can be listed, and else from a bisection; both are other searches than the proved one."""
+The least a/b comes from all simple cycles where they can be listed, and else from a bisection; both are other searches than the proved one.
+Where no port of a component has a rate, its floor is zero, which is no period (change request F-3): what counts is then which cycles are
+positive at every a/b close enough to zero. That is those with E above zero, and of those with E zero the ones with D above zero."""
 from fractions import Fraction
 
 from ratios import components, weights
@@ -37,15 +39,16 @@ def simple_cycles(members, edges):
     return found
 
 
-def least_by_cycles(floor, cycles):
-    """The greatest limit, where no cycle is positive there."""
+def by_cycles(floor, cycles):
+    """0 and the greatest limit, or 15 where a cycle is positive there; just above zero, where no limit is above it, 17 or 15."""
     x = max([floor] + [Fraction(e, -d) for e, d in cycles if d < 0])
-    return x if all(e + d * x <= 0 for e, d in cycles) else None
+    if x > 0:
+        return (0, x) if all(e + d * x <= 0 for e, d in cycles) else (15, None)
+    return (15 if any(e > 0 or e == 0 and d > 0 for e, d in cycles) else 17), None
 
 
-def longest(members, edges, x):
-    """The least starts at x, or (None, D) with D of a positive cycle."""
-    a, b = x.numerator, x.denominator
+def longest(members, edges, a, b):
+    """The least starts where an edge costs E b + D a, or (None, D) with D of a positive cycle."""
     start, last = {p: 0 for p in members}, {}
     for _ in members:
         changed = None
@@ -68,47 +71,59 @@ def longest(members, edges, x):
             return None, total
 
 
-def least_by_bisection(floor, members, edges):
-    """Below `low` a falling cycle is positive; from `high` on a rising one is, or `high` serves."""
-    starts, rise = longest(members, edges, floor)
+def longest_at(members, edges, x):
+    return longest(members, edges, x.numerator, x.denominator)
+
+
+def longest_above_zero(members, edges):
+    """As `longest`, just above zero: by E, then by D over the edges that those starts meet exactly, for these are the edges of every cycle with
+    E zero and of no other. The starts are those of the last search."""
+    starts, rise = longest(members, edges, 0, 1)
+    if starts is None:
+        return None, rise
+    return longest(members, [edge for edge in edges if starts[edge[0]] + edge[2] == starts[edge[1]]], 1, 0)
+
+
+def by_bisection(floor, members, edges):
+    """As `by_cycles`. Below `low` a falling cycle is positive; from `high` on a rising one is, or `high` serves."""
+    starts, rise = longest_at(members, edges, floor) if floor > 0 else longest_above_zero(members, edges)
     if starts is not None:
-        return floor
+        return (0, floor) if floor > 0 else (17, None)
     if rise >= 0:
-        return None
+        return 15, None
     low, high = floor, Fraction(MOST_PART + 1)
     while high - low > Fraction(1, 2 * MOST_PART ** 2):
         middle = (low + high) / 2
         # short fractions keep the sums short
         middle = middle.limit_denominator(2 ** 62)
-        starts, rise = longest(members, edges, middle)
+        starts, rise = longest_at(members, edges, middle)
         if starts is None and rise < 0:
             low = middle
         else:
             high = middle
     x = ((low + high) / 2).limit_denominator(MOST_PART)
-    if not low < x <= high:
-        return None
-    starts, _ = longest(members, edges, x)
-    return x if starts is not None else None
+    serves = low < x <= high and longest_at(members, edges, x)[0] is not None
+    return (0, x) if serves else (15, None)
 
 
 def timed(model, w, component, root):
-    """The least a/b of the component with that root and its least starts there, times b; (None, None) where no a/b serves."""
+    """Of the component with that root 0, its least a/b and its least starts there, times b; or 15 or 17, None and None."""
     members = [p for p in range(len(model.ports)) if component[p] == root]
     edges = [(k.start, k.end, k.ticks, k.events * w[k.start])
              for k in model.links if k.events is not None and component[k.start] == root]
-    floor = max(Fraction(model.ports[p].den, model.ports[p].num * w[p]) for p in members)
+    limits = (Fraction(model.ports[p].den, model.ports[p].num * w[p]) for p in members if model.ports[p].is_rated)
+    floor = max(limits, default=Fraction(0))
     try:
-        x = least_by_cycles(floor, simple_cycles(members, edges))
+        number, x = by_cycles(floor, simple_cycles(members, edges))
     except TooMany:
-        x = least_by_bisection(floor, members, edges)
-    return (None, None) if x is None else (x, longest(members, edges, x)[0])
+        number, x = by_bisection(floor, members, edges)
+    return number, x, None if x is None else longest_at(members, edges, x)[0]
 
 
-def lowest_without_period(model, w):
-    """The lowest component that no a/b serves, or None."""
+def numbers_by_component(model, w):
+    """For each component, by its lowest port, 0, 15 or 17."""
     component = components(model)
-    return next((root for root in sorted(set(component)) if timed(model, w, component, root)[0] is None), None)
+    return {root: timed(model, w, component, root)[0] for root in sorted(set(component))}
 
 
 def analyse(model):
@@ -117,14 +132,17 @@ def analyse(model):
     if number != 0:
         return number, [], []
     component = components(model)
-    period, start = {}, {}
+    period, start, numbers = {}, {}, set()
     for root in sorted(set(component)):
-        x, starts = timed(model, w, component, root)
-        if x is None:
-            return 15, [], []
-        for p in starts:
+        number, x, starts = timed(model, w, component, root)
+        numbers.add(number)
+        for p in starts or ():
             period[p] = w[p] * x
             start[p] = Fraction(starts[p], x.denominator)
+    # 15 is tried over the whole table before 17
+    for number in (15, 17):
+        if number in numbers:
+            return number, [], []
     sizes = []
     for n, k in enumerate(model.links):
         if k.events is None:

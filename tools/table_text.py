@@ -6,7 +6,7 @@
     table_text.py decode [TABLE] > TEXT
     table_text.py decode --at BYTE [TABLE]           the line, with its number, of the record that begins at that byte
 
-    port 1/1                                         maximum rate: events per tick
+    port 1/1                                         maximum rate: events per tick; 0/0 where it has none
     connection 0 1 ratio 1/1 ticks 3 events 0        from, to, ratio, constant delay, rate-dependent delay
     buffer 1 0 ratio 1/1 ticks 4                     from, to, ratio, constant delay
 
@@ -77,7 +77,8 @@ def add_line(model, line, added):
         if len(model.ports) == MOST_PORTS:
             raise Fault(f'more than {MOST_PORTS} ports')
         for part in values:
-            within('rate part', part, 1, MOST_PART)
+            if values != [0, 0] and not 1 <= part <= MOST_PART:
+                raise Fault(f'rate part {part} is not from 1 to {MOST_PART}, nor is the rate 0/0')
         model.ports.append(Port(*values))
         return
     if len(model.links) == MOST_LINKS:

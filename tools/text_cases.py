@@ -14,6 +14,7 @@ BUFFER = b'buffer 0 0 ratio 1/1 ticks 0\n'
 PORT_SHAPE = 'this is not port RATE, as: port 1/1'
 CONNECTION_SHAPE = 'this is not connection FROM TO ratio N/D ticks T events E, as: connection 0 1 ratio 1/1 ticks 3 events 0'
 BUFFER_SHAPE = 'this is not buffer FROM TO ratio N/D ticks T, as: buffer 1 0 ratio 1/1 ticks 4'
+NO_RATE = 'not from 1 to 1000, nor is the rate 0/0'
 ONE = port_bytes(Port())
 
 # The worked example of document 01: its text and, by hand, its 72 bytes.
@@ -33,6 +34,8 @@ GOOD_TEXTS = [
     (b'# first\n\n  # second\n\t\nport 1/1# third\n#\n', ONE),
     (b'# caf\xc3\xa9 \xe2\x80\xa8 \xc2\x85 \x0b \x0c \x1c\nport 1/1\n', ONE),
     (b'port 1000/999\n', port_bytes(Port(1000, 999))),
+    (b'port 0/0\n', port_bytes(Port(0, 0))),
+    (PORT + b'port 0/0\n' + CONNECTION, ONE + port_bytes(Port(0, 0)) + link_bytes(Link(0, 0))),
     (b'port +0000000001/1\n', ONE),
     (PORT * 64 + CONNECTION * 255 + BUFFER, table_bytes(Model([Port()] * 64, [Link(0, 0)] * 255 + [Link(0, 0, events=None)]))),
     (PORT + b'connection 0 0 ratio 1000/1 ticks 10000000 events 1000\n' b'connection 0 0 ratio 1/1000 ticks -10000000 events -1000\n',
@@ -51,14 +54,21 @@ FAULTY_TEXTS = [
     (PORT * 65, 'line 65: more than 64 ports'),
     (PORT + CONNECTION * 128 + BUFFER * 129, 'line 258: more than 256 connections and buffers'),
     (PORT + BUFFER + PORT, 'line 3: a port follows a connection or buffer'),
-    (b'port 0/1\n', 'line 1: rate part 0 is not from 1 to 1000'),
-    (b'port 1/0\n', 'line 1: rate part 0 is not from 1 to 1000'),
-    (b'port 1001/1\n', 'line 1: rate part 1001 is not from 1 to 1000'),
-    (b'port 1/-1\n', 'line 1: rate part -1 is not from 1 to 1000'),
+    (b'port 0/1\n', f'line 1: rate part 0 is {NO_RATE}'),
+    (b'port 1/0\n', f'line 1: rate part 0 is {NO_RATE}'),
+    (PORT + b'port 0/1000\n', f'line 2: rate part 0 is {NO_RATE}'),
+    (b'port 0/0\n' b'port 1000/0\n', f'line 2: rate part 0 is {NO_RATE}'),
+    (b'port 0/65535\n', f'line 1: rate part 0 is {NO_RATE}'),
+    (b'port 1001/0\n', f'line 1: rate part 1001 is {NO_RATE}'),
+    (b'port 1001/1\n', f'line 1: rate part 1001 is {NO_RATE}'),
+    (b'port 1/-1\n', f'line 1: rate part -1 is {NO_RATE}'),
+    (b'port 0\n', f'line 1: {PORT_SHAPE}'),
     (PORT + b'connection 1 0 ratio 1/1 ticks 0 events 0\n', 'line 2: there is no port 1'),
     (PORT + b'connection 0 1 ratio 1/1 ticks 0 events 0\n', 'line 2: there is no port 1'),
     (PORT + b'buffer -1 0 ratio 1/1 ticks 0\n', 'line 2: there is no port -1'),
     (PORT + b'connection 0 0 ratio 0/1 ticks 0 events 0\n', 'line 2: ratio part 0 is not from 1 to 1000'),
+    (b'port 0/0\n' b'connection 0 0 ratio 0/0 ticks 0 events 0\n', 'line 2: ratio part 0 is not from 1 to 1000'),
+    (b'port 0/0\n' b'buffer 0 0 ratio 0/0 ticks 0\n', 'line 2: ratio part 0 is not from 1 to 1000'),
     (PORT + b'buffer 0 0 ratio 1/1001 ticks 0\n', 'line 2: ratio part 1001 is not from 1 to 1000'),
     (PORT + b'connection 0 0 ratio 1/1 ticks 10000001 events 0\n', 'line 2: ticks 10000001 is not from -10000000 to 10000000'),
     (PORT + b'buffer 0 0 ratio 1/1 ticks -10000001\n', 'line 2: ticks -10000001 is not from -10000000 to 10000000'),
@@ -112,6 +122,7 @@ FAULTY_ADDED = [
     (PORT, 'line 1: a port among added records'),
     (CONNECTION + PORT, 'line 2: a port among added records'),
     (b'port 0/1\n', 'line 1: a port among added records'),
+    (b'port 0/0\n', 'line 1: a port among added records'),
     (b'port 1\n', f'line 1: {PORT_SHAPE}'),
     (b'prot 1/1\n', "line 1: 'prot' is not port, connection or buffer"),
     (b'connection 64 0 ratio 1/1 ticks 0 events 0\n', 'line 1: there is no port 64'),
@@ -125,6 +136,7 @@ GOOD_TABLES = [
     (WORKED_TABLE, WORKED),
     (b'', b''),
     (link_bytes(Link(63, 0)), b'connection 63 0 ratio 1/1 ticks 0 events 0\n'),
+    (port_bytes(Port(0, 0)) + ONE, b'port 0/0\n' + PORT),
     # faults of its numbers and of its order stay for the text to show
     (port_bytes(Port(0, 65535)), b'port 0/65535\n'),
     (ONE * 65, PORT * 65),

@@ -1,7 +1,7 @@
 -- From the promise of the analysis follow the three demands.
 use Prim.Native.Nat.{ℕ, _≤_, _<_}
 use mathlib.Core.Path.{_≡_, refl, sym, ap, _∙_}
-use mathlib.Core.Logic.{_≢_, _⊎_, inl, inr}
+use mathlib.Core.Logic.{_≢_, _⊎_, inl, inr, ⊎-elim}
 use mathlib.Core.List.{List, []}
 use native.Mathlib.Omega.{arith}
 use lib.ListN.{length}
@@ -13,7 +13,7 @@ use Rattle.table.specs.FaultLaws.{fault-number, table-place, table-no-place}
 use Rattle.table.specs.WellFormed.{WellFormed}
 use Rattle.specification.specs.Table.{Table}
 use Rattle.specification.specs.Ratios.{Overweight}
-use Rattle.specification.specs.Answers.{Answer, refused, disagreeing, overweight, blocked, consistent, number, records, Right, leastRoom, answerPlace}
+use Rattle.specification.specs.Answers.{Answer, refused, disagreeing, overweight, blocked, noLeast, consistent, number, records, Right, leastRoom, answerPlace}
 use Rattle.demands.specs.AnswerCases.{AnswerCase, short, faulty, formed, answer-case}
 use Rattle.specification.specs.Solutions.{Solution}
 use Rattle.demands.specs.Room.{fits-room}
@@ -21,7 +21,7 @@ use Rattle.demands.specs.OneAnswer.{one-answer}
 use Rattle.demands.specs.Demand2Laws.{demand-2}
 use Rattle.demands.specs.Demand3Laws.{demand-3}
 use Rattle.specification.specs.Analysed.{Fits, Analysed}
-use Rattle.specification.specs.Demanded.{ConsistentCall, DisagreeingCall, BlockedCall, WellFormedCall, Demanded}
+use Rattle.specification.specs.Demanded.{ConsistentCall, DisagreeingCall, BlockedCall, NoLeastCall, WellFormedCall, Demanded}
 use Rattle.specification.specs.declared.Outcome.{Outcome}
 
 module _ {s before after : List ℕ} {r : Outcome} (h : Analysed s before after r) where
@@ -42,13 +42,15 @@ module _ {s before after : List ℕ} {r : Outcome} (h : Analysed s before after 
   faulty-number (faulty l f) k g = refl
   faulty-number (formed l z _ i) k g = absurd (g z)
 
-  listed-number : {x : Answer} → Case x → WellFormedCall s before → (number x ≡ 0) ⊎ ((number x ≡ 13) ⊎ ((number x ≡ 14) ⊎ (number x ≡ 15)))
+  listed-number : {x : Answer} → Case x → WellFormedCall s before
+      → (number x ≡ 0) ⊎ ((number x ≡ 13) ⊎ ((number x ≡ 14) ⊎ ((number x ≡ 15) ⊎ (number x ≡ 17))))
   listed-number (short l) w = absurd (omega (arith, w .enough))
   listed-number (faulty l f) w = absurd (f (w .no-fault))
   listed-number {x = refused n} (formed _ _ _ i) w = absurd i
   listed-number {x = disagreeing path} (formed _ _ _ i) w = inr (inl refl)
   listed-number {x = overweight} (formed _ _ _ i) w = inr (inr (inl refl))
-  listed-number {x = blocked floor block} (formed _ _ _ i) w = inr (inr (inr refl))
+  listed-number {x = blocked floor block} (formed _ _ _ i) w = inr (inr (inr (inl refl)))
+  listed-number {x = noLeast} (formed _ _ _ i) w = inr (inr (inr (inr refl)))
   listed-number {x = consistent timing} (formed _ _ _ i) w = inl refl
 
   -- a right answer to a table that was read has none of the numbers of a record
@@ -57,6 +59,7 @@ module _ {s before after : List ℕ} {r : Outcome} (h : Analysed s before after 
   other (disagreeing path) i k m = omega arith
   other overweight i k m = omega arith
   other (blocked floor block) i k m = omega arith
+  other noLeast i k m = omega arith
   other (consistent timing) i k m = omega arith
 
   place-in : {x : Answer} → Case x → 2 ≤ number x → number x ≤ 11 → FaultPlace s start (number x) (answerPlace s (length before))
@@ -77,6 +80,7 @@ module _ {s before after : List ℕ} {r : Outcome} (h : Analysed s before after 
   no-records (disagreeing path) f g k = absurd (g refl)
   no-records overweight f g k = refl
   no-records (blocked floor block) f g k = absurd (k refl)
+  no-records noLeast f g k = refl
   no-records (consistent timing) f g k = absurd (f refl)
 
   small-records : {x : Answer} → Case x → length (records t x) ≤ leastRoom
@@ -97,6 +101,7 @@ module _ {s before after : List ℕ} {r : Outcome} (h : Analysed s before after 
   solved-call {x = disagreeing path} (formed _ _ _ i) f w e = absurd (omega (arith, e))
   solved-call {x = overweight} (formed _ _ _ i) f w e = absurd (omega (arith, e))
   solved-call {x = blocked floor block} (formed _ _ _ i) f w e = absurd (omega (arith, e))
+  solved-call {x = noLeast} (formed _ _ _ i) f w e = absurd (omega (arith, e))
   solved-call {x = consistent timing} (formed _ _ g i) f w e = record {
     timing = timing;
     records-are = w;
@@ -105,9 +110,9 @@ module _ {s before after : List ℕ} {r : Outcome} (h : Analysed s before after 
     chains = demand-3 g i;
   }
 
-  -- no solution where a right answer has another number than 0 and 14
-  unsolved : (x : Answer) → WellFormed t → Right t x → number x ≢ 0 → number x ≢ 14 → ¬ Solution t
-  unsolved x g i other over y = other (demand-2 {x = x} g i .only y over)
+  -- no solution where a right answer has another number than 0, 14 and 17
+  unsolved : (x : Answer) → WellFormed t → Right t x → number x ≢ 0 → number x ≢ 17 → number x ≢ 14 → ¬ Solution t
+  unsolved x g i least no-least over y = ⊎-elim (λ (e : number x ≡ 0). least e) (λ (e : number x ≡ 17). no-least e) (demand-2 {x = x} g i .only y over)
 
   disagreeing-call : {x : Answer} → Case x → Written (records t x) before after (r .written) → number x ≡ 13 → DisagreeingCall t before after r
   disagreeing-call (short l) w e = absurd (omega (arith, e))
@@ -115,12 +120,13 @@ module _ {s before after : List ℕ} {r : Outcome} (h : Analysed s before after 
   disagreeing-call {x = refused n} (formed _ _ _ i) w e = absurd i
   disagreeing-call {x = overweight} (formed _ _ _ i) w e = absurd (omega (arith, e))
   disagreeing-call {x = blocked floor block} (formed _ _ _ i) w e = absurd (omega (arith, e))
+  disagreeing-call {x = noLeast} (formed _ _ _ i) w e = absurd (omega (arith, e))
   disagreeing-call {x = consistent timing} (formed _ _ _ i) w e = absurd (omega (arith, e))
   disagreeing-call {x = disagreeing path} (formed _ _ g i) w e = record {
     path = path;
     is-loop = i;
     records-are = w;
-    unsolved = unsolved (disagreeing path) g i (λ z. omega (arith, z)) (λ z. omega (arith, z));
+    unsolved = unsolved (disagreeing path) g i (λ z. omega (arith, z)) (λ z. omega (arith, z)) (λ z. omega (arith, z));
   }
 
   overweight-call : {x : Answer} → Case x → number x ≡ 14 → Overweight t
@@ -130,6 +136,7 @@ module _ {s before after : List ℕ} {r : Outcome} (h : Analysed s before after 
   overweight-call {x = overweight} (formed _ _ _ i) e = i
   overweight-call {x = disagreeing path} (formed _ _ _ i) e = absurd (omega (arith, e))
   overweight-call {x = blocked floor block} (formed _ _ _ i) e = absurd (omega (arith, e))
+  overweight-call {x = noLeast} (formed _ _ _ i) e = absurd (omega (arith, e))
   overweight-call {x = consistent timing} (formed _ _ _ i) e = absurd (omega (arith, e))
 
   blocked-call : {x : Answer} → Case x → Written (records t x) before after (r .written) → number x ≡ 15 → BlockedCall t before after r
@@ -138,16 +145,29 @@ module _ {s before after : List ℕ} {r : Outcome} (h : Analysed s before after 
   blocked-call {x = refused n} (formed _ _ _ i) w e = absurd i
   blocked-call {x = overweight} (formed _ _ _ i) w e = absurd (omega (arith, e))
   blocked-call {x = disagreeing path} (formed _ _ _ i) w e = absurd (omega (arith, e))
+  blocked-call {x = noLeast} (formed _ _ _ i) w e = absurd (omega (arith, e))
   blocked-call {x = consistent timing} (formed _ _ _ i) w e = absurd (omega (arith, e))
   blocked-call {x = blocked floor block} (formed _ _ g i) w e = record {
     floor = floor;
     block = block;
     no-period = i;
     records-are = w;
-    unsolved = unsolved (blocked floor block) g i (λ z. omega (arith, z)) (λ z. omega (arith, z));
+    unsolved = unsolved (blocked floor block) g i (λ z. omega (arith, z)) (λ z. omega (arith, z)) (λ z. omega (arith, z));
   }
 
-  only-call : {x : Answer} → Case x → WellFormedCall s before → Solution t → number x ≢ 14 → number x ≡ 0
+  no-least-call : {x : Answer} → Case x → number x ≡ 17 → NoLeastCall t
+  no-least-call (short l) e = absurd (omega (arith, e))
+  no-least-call (faulty l f) e = absurd (omega (arith, e, fault-number s f .most))
+  no-least-call {x = refused n} (formed _ _ _ i) e = absurd i
+  no-least-call {x = disagreeing path} (formed _ _ _ i) e = absurd (omega (arith, e))
+  no-least-call {x = overweight} (formed _ _ _ i) e = absurd (omega (arith, e))
+  no-least-call {x = blocked floor block} (formed _ _ _ i) e = absurd (omega (arith, e))
+  no-least-call {x = consistent timing} (formed _ _ _ i) e = absurd (omega (arith, e))
+  no-least-call {x = noLeast} (formed _ _ g i) e =
+      let d = demand-2 {x = noLeast} g i in
+      record { no-least-period = i; solution = d .solved (inr refl); no-least = d .no-least refl }
+
+  only-call : {x : Answer} → Case x → WellFormedCall s before → Solution t → number x ≢ 14 → (number x ≡ 0) ⊎ (number x ≡ 17)
   only-call (short l) w y f = absurd (omega (arith, w .enough))
   only-call (faulty l g) w y f = absurd (g (w .no-fault))
   only-call {x} (formed _ _ g i) w y f = demand-2 {x = x} g i .only y f
@@ -190,5 +210,6 @@ demanded {s} {before} {after} {r} h =
       disagreeing = λ e. disagreeing-call h c w (sym n ∙ e);
       overweight = λ e. overweight-call h c (sym n ∙ e);
       blocked = λ e. blocked-call h c w (sym n ∙ e);
-      only = λ g y f. n ∙ only-call h c g y (λ e. f (n ∙ e));
+      no-least = λ e. no-least-call h c (sym n ∙ e);
+      only = λ g y f. rw n (only-call h c g y (λ e. f (n ∙ e)));
     }

@@ -1,4 +1,4 @@
--- The periods and starts of a table's components, and what all components come to.
+-- The periods and starts of a table's components, and what timing one of them comes to.
 use Prim.Native.Nat.{ℕ, _+_, _*_, _≤_, _<_}
 use mathlib.Core.Path.{_≡_}
 use mathlib.Core.List.{List, [], _++_}
@@ -6,7 +6,7 @@ use lib.ListN.{length, getD, replicate}
 use Rattle.fraction.specs.declared.Fraction.{Fraction}
 use Rattle.specification.specs.Bytes.{Written, cycleAnswer}
 use Rattle.numbers.specs.Lists.{_∈_}
-use Rattle.specification.specs.Periods.{LeastStarts, Period, PortIn, graphIn}
+use Rattle.specification.specs.Periods.{LeastStarts, Period, HasPeriod, NoLeast, PortIn, graphIn}
 use Rattle.specification.specs.Table.{Table, portCount, linkCount}
 use Rattle.period.specs.Search.{SmallPeriod, mostStart}
 use Rattle.order.specs.Order.{Sorted}
@@ -14,6 +14,8 @@ use Rattle.specification.specs.Answers.{Floor, floorRecord, NoPeriod}
 use Rattle.specification.specs.Ratios.{IsComponent}
 use Rattle.graph.specs.Arranged.{Labelled, labelsOf, mostMembers, SlicesIn, Arranged}
 use Rattle.results.specs.Kept.{componentAt, aAt, bAt, startAt}
+use Rattle.analysis.specs.declared.periods.Timed.{Timed}
+use Rattle.analysis.specs.declared.periods.Timed.the-variants.{Least, NoLeast as Without, Shown as Shows}
 
 -- the ports of a component by their numbers, the lowest first
 pub record Members (members : List ℕ) : Type 0 where
@@ -50,6 +52,16 @@ module _ (t : Table) (weights kept : List ℕ) where
     pub long : length kept ≡ 256
     pub each : (c : ℕ) → IsComponent t c → c < n → TimedIn c
 
+-- every component below n has a period
+pub record PeriodsBelow (t : Table) (weights : List ℕ) (n : ℕ) : Type 0 where
+  pub each : (c : ℕ) → IsComponent t c → c < n → HasPeriod (graphIn t (λ p. getD weights p 0) c)
+
+-- some component has no least
+pub record SomeNoLeast (t : Table) (weights : List ℕ) : Type 0 where
+  pub c : ℕ
+  pub component : IsComponent t c
+  pub no-least : NoLeast (graphIn t (λ p. getD weights p 0) c)
+
 -- number 15, shown in the answer buffer
 pub record Shown (t : Table) (before after : List ℕ) (r : ℕ) : Type 0 where
   pub floor : Floor
@@ -57,15 +69,35 @@ pub record Shown (t : Table) (before after : List ℕ) (r : ℕ) : Type 0 where
   pub no-period : NoPeriod t floor block
   pub records-are : Written (floorRecord floor ++ cycleAnswer block) before after r
 
--- every component below n has its period and nothing is written, or the lowest that has none is shown
-pub record TimedOrShown (t : Table) (weights kept before after : List ℕ) (n r : ℕ) : Type 0 where
-  pub timed : r ≡ 0 → TimedBelow t weights kept n
-  pub unchanged : r ≡ 0 → after ≡ before
-  pub blocked : 0 < r → Shown t before after r
+-- the number that timing comes to
+abbrev pub numberOf : Timed → ℕ
+numberOf Least = 0
+numberOf Without = 17
+numberOf (Shows n) = 15
 
--- where the components below c are timed, component c is, or is shown
-pub record OneTimed (t : Table) (weights : List ℕ) (c : ℕ) (kept kept′ before after : List ℕ) (r : ℕ) : Type 0 where
-  pub of : TimedBelow t weights kept c → TimedOrShown t weights kept′ before after (c + 1) r
+-- ---- one component, c
+module _ (t : Table) (weights : List ℕ) (c : ℕ) (kept kept′ before after : List ℕ) where
+  -- it has a least period, which is kept with those of the components below
+  pub record OneLeast : Type 0 where
+    pub timed : TimedBelow t weights kept c → TimedBelow t weights kept′ (c + 1)
+    pub has-period : HasPeriod (graphIn t (λ p. getD weights p 0) c)
+    pub same-length : length kept′ ≡ length kept
+    pub unchanged : after ≡ before
+
+  -- it has periods but no least
+  pub record OneNoLeast : Type 0 where
+    pub no-least : NoLeast (graphIn t (λ p. getD weights p 0) c)
+    pub same-length : length kept′ ≡ length kept
+    pub unchanged : after ≡ before
+
+  -- it has none; where those below have, it is shown
+  pub record OneShown (r : ℕ) : Type 0 where
+    pub of : PeriodsBelow t weights c → Shown t before after r
+
+  abbrev pub OneTimed : Timed → Type 0
+  OneTimed Least = OneLeast
+  OneTimed Without = OneNoLeast
+  OneTimed (Shows r) = OneShown r
 
 -- ---- what timing asks
 -- the ports and connections of one component, named by its lowest port

@@ -5,10 +5,11 @@ ghost use lib.ListN.{length, getD};
 ghost use Rattle.specification.specs.Answers.{leastRoom};
 ghost use Rattle.table.specs.Slices.{tableOf};
 ghost use Rattle.analysis.specs.Decided.{Decided};
-ghost use Rattle.analysis.specs.Timed.{Members, Kept, OneTimed, ComponentSlices, TableSlices};
+ghost use Rattle.analysis.specs.Timed.{Members, Kept, numberOf, OneTimed, ComponentSlices, TableSlices};
 use fraction::Fraction;
 use period::limit;
 use period::search;
+use period::search::SearchEnd;
 use results::blocked;
 use results::consistent;
 use specification::Outcome;
@@ -44,8 +45,25 @@ fn keep(members: &[u64], period: Fraction, starts: &[u64], kept: &mut [u64])
     }
 }
 
-// One component: keeps its period and starts and returns 0, or writes its floor and block and returns how many bytes these have. Without
-// connections its period is the greatest rate limit, and its ports start at 0.
+// What timing comes to: the least periods and starts are kept; there are periods but no least; or a floor and a block are shown in so many
+// bytes of the answer.
+pub enum Timed {
+    Least,
+    NoLeast,
+    Shown(usize),
+}
+
+pub fn number_of(timed: Timed) -> u64
+    ensures { λ r. ⌜ r ≡ numberOf timed ⌝ }
+{
+    match timed {
+        Timed::Least => 0,
+        Timed::NoLeast => 17,
+        Timed::Shown(_) => 15,
+    }
+}
+
+// One component. Without connections its period is the greatest rate limit, and its ports start at 0.
 fn time_one(
     ports: &[u32],
     links: &[u32],
@@ -55,7 +73,7 @@ fn time_one(
     work: &mut [u64],
     kept: &mut [u64],
     answer: &mut [u8],
-) -> usize
+) -> Timed
     requires { ⌜ ComponentSlices (tableOf (now ports) (now links)) (now weights) (now members) (now numbers) ⌝ }
     requires { ⌜ 64 * length (now members) + 64 + 4 * length (now numbers) ≤ length (now work) ⌝ }
     requires { ⌜ length (now kept) ≡ 256 ⌝ }
@@ -64,19 +82,28 @@ fn time_one(
 {
     let greatest = limit::greatest_limit(ports, weights, members);
     if numbers.len() == 0 {
-        keep(members, greatest.period, &work[..0], kept);
-        return 0;
+        let value = greatest.value;
+        if value.num == 0 {
+            return Timed::NoLeast;
+        }
+        keep(members, value, &work[..0], kept);
+        return Timed::Least;
     }
     let s = search::least_period(ports, links, weights, members, numbers, greatest, work);
-    if s.settled {
-        let row = 64 * (s.rounds - 1);
-        keep(members, s.period, &work[row..row + 64], kept);
-        return 0;
+    let end = s.end;
+    match end {
+        SearchEnd::Least(period) => {
+            let row = 64 * (s.rounds - 1);
+            keep(members, period, &work[row..row + 64], kept);
+            Timed::Least
+        }
+        SearchEnd::NoLeast => Timed::NoLeast,
+        SearchEnd::Blocked => Timed::Shown(blocked::write_blocked(s, numbers, answer)),
     }
-    blocked::write_blocked(s, numbers, answer)
 }
 
-// All components, the lowest first. The first that has no period is shown, with number 15; else the periods, starts and sizes are written.
+// All components, the lowest first. The first that has no period is shown; one that has periods but no least does not end the search.
+// Where each has a least, the periods, starts and sizes are written.
 pub fn time_all(
     ports: &[u32],
     links: &[u32],
@@ -93,6 +120,7 @@ pub fn time_all(
 {
     let total = ports::count(ports);
     let mut kept = [0u64; 256];
+    let mut least = true;
     let mut member: usize = 0;
     let mut number: usize = 0;
     let mut c: usize = 0;
@@ -100,7 +128,7 @@ pub fn time_all(
         let member_end = ends[0][c];
         let number_end = ends[1][c];
         if member < member_end {
-            let shown = time_one(
+            let one = time_one(
                 ports,
                 links,
                 weights,
@@ -110,22 +138,35 @@ pub fn time_all(
                 &mut kept,
                 answer,
             );
-            if shown != 0 {
-                return Outcome {
-                    number: 15,
-                    place: 0,
-                    written: shown,
-                };
+            match one {
+                Timed::Least => {}
+                Timed::NoLeast => {
+                    least = false;
+                }
+                Timed::Shown(written) => {
+                    return Outcome {
+                        number: number_of(one),
+                        place: 0,
+                        written,
+                    };
+                }
             }
         }
         member = member_end;
         number = number_end;
         c = c + 1;
     }
-    let written = consistent::write_consistent(ports, links, weights, &kept, answer);
+    if least {
+        let written = consistent::write_consistent(ports, links, weights, &kept, answer);
+        return Outcome {
+            number: number_of(Timed::Least),
+            place: 0,
+            written,
+        };
+    }
     Outcome {
-        number: 0,
+        number: number_of(Timed::NoLeast),
         place: 0,
-        written,
+        written: 0,
     }
 }

@@ -15,7 +15,7 @@ use Rattle.specification.specs.Analysed.{Analysed}
 use Rattle.specification.specs.Bracketing.{Three, joinLeft, joinRight, SameCalls}
 use Rattle.table.specs.FaultLaws.{no-fault-place}
 use Rattle.demands.specs.Room.{port-records}
-use Rattle.demands.specs.OrderLaws.{same-port, same-port-records, Pair, both-refused, both-disagreeing, both-overweight, both-blocked, both-consistent}
+use Rattle.demands.specs.OrderLaws.{same-port, same-port-records, Pair, both-refused, both-disagreeing, both-overweight, both-blocked, both-no-least, both-consistent}
 use Rattle.bracketing.specs.Brackets.{brackets}
 use Rattle.bracketing.specs.BracketedAnswers.{bracketed-pair, bracketed-answers}
 use Rattle.specification.specs.declared.Outcome.{Outcome}
@@ -36,6 +36,7 @@ same-front (both-refused n f) z w w′ = absurd (f z)
 same-front (both-disagreeing l m) z w w′ = absurd (omega (arith, z))
 same-front both-overweight z w w′ = absurd (omega (arith, z))
 same-front (both-blocked f g b c) z w w′ = absurd (omega (arith, z))
+same-front both-no-least z w w′ = absurd (omega (arith, z))
 same-front {t} {u} (both-consistent {r = r} {r′ = r′} o h k) z w w′ =
     let count = ap length (o .same .ports) in
     front t r w ∙ same-port-records (portCount t) (λ p i. same-port o h k p (record { below = i })) ∙ rw count (sym (front u r′ w′))

@@ -1,4 +1,4 @@
--- The models A to K of document 01, and the answers that the definitions give them.
+-- The models A to K of document 01 and some with ports without a rate, and the answers that the definitions give them.
 use Prim.Native.Nat.{ℕ, _<_}
 use mathlib.Core.Path.{refl}
 use mathlib.Core.Bool.{true, false}
@@ -12,9 +12,23 @@ use Rattle.specification.specs.declared.Port.{Port}
 use Rattle.specification.specs.declared.Link.{Link}
 use Rattle.specification.specs.Table.{Table, IsConnection}
 use Rattle.specification.specs.Ratios.{Step, stay, walk}
-use Rattle.specification.specs.Answers.{Timing, periodOf, startOf, rate, cycle, Answer, disagreeing, overweight, blocked, consistent, Right}
+use Rattle.specification.specs.Answers.{
+  Timing,
+  periodOf,
+  startOf,
+  rate,
+  cycle,
+  zeroFloor,
+  Answer,
+  disagreeing,
+  overweight,
+  blocked,
+  noLeast,
+  consistent,
+  Right,
+}
 use Rattle.specification.specs.Chains.{Chain, first, connection}
-use Rattle.demands.proofs.Tests.{distinct-is, consistent-by, blocked-by, overweight-by}
+use Rattle.demands.proofs.Tests.{distinct-is, consistent-by, blocked-by, blocked-from-zero-by, no-least-by, overweight-by}
 
 record Model : Type 0 where
   ports : List Port
@@ -27,6 +41,10 @@ rated num den = record { num = num; den = den }
 
 abbrev one : Port
 one = rated 1 1
+
+-- a port without a rate
+abbrev rateless : Port
+rateless = rated 0 0
 
 -- a connection with the ratio num / den; ε and δ are each an amount forward and an amount back
 abbrev geared : (from to num den : ℕ) → Ticks → Events → Link
@@ -107,6 +125,28 @@ models =
     -- K
     ∷ ((one ∷ one ∷ one ∷ [], geared 0 1 1000 1 (0, 0) (0, 0) ∷ geared 1 2 11 1 (0, 0) (0, 0) ∷ [])
     gives overweight)
+    -- A without rates: the period is still that of the cycle
+    ∷ ((rateless ∷ rateless ∷ [], plain 0 1 (3, 0) (0, 0) ∷ plain 1 0 (0, 0) (0, 2) ∷ buffer 1 0 (4, 0) ∷ [])
+    gives consistent A-timing)
+    -- F without a rate
+    ∷ ((rateless ∷ [], plain 0 0 (7, 0) (0, 1) ∷ plain 0 0 (0, 5) (1, 0) ∷ [])
+    gives blocked (cycle (0 ∷ [])) (1 ∷ []))
+    -- positive at every period above zero; the first not at zero
+    ∷ ((rateless ∷ [], plain 0 0 (0, 0) (1, 0) ∷ [])
+    gives blocked zeroFloor (0 ∷ []))
+    ∷ ((rateless ∷ [], plain 0 0 (1, 0) (0, 0) ∷ [])
+    gives blocked zeroFloor (0 ∷ []))
+    -- the period is 1/1000
+    ∷ ((rateless ∷ [], plain 0 0 (1, 0) (0, 1000) ∷ [])
+    gives consistent (timed (1 ∷ []) 1 1000 (omega arith) (0 ∷ []) []))
+    -- the one rate is the floor of both
+    ∷ ((rateless ∷ one ∷ [], plain 0 1 (0, 0) (0, 0) ∷ [])
+    gives consistent (timed (1 ∷ 1 ∷ []) 1 1 (omega arith) (0 ∷ 0 ∷ []) []))
+    -- periods but no least: no cycle; zero at every period; below zero at every period; not above zero up to 1/1000
+    ∷ ((rateless ∷ [], []) gives noLeast)
+    ∷ ((rateless ∷ [], plain 0 0 (0, 0) (0, 0) ∷ []) gives noLeast)
+    ∷ ((rateless ∷ [], plain 0 0 (0, 0) (0, 1) ∷ []) gives noLeast)
+    ∷ ((rateless ∷ [], plain 0 0 (0, 1) (1000, 0) ∷ []) gives noLeast)
     ∷ []
 
 -- ---- the lemma
@@ -127,7 +167,7 @@ I-right = record {
   unequal = λ e. omega (arith, e);
 }
 
--- a floor, or weights and a/b at the floor, show what the tests compute
+-- a floor, or weights and a/b at the floor, show what the tests compute; at 17 an a/b that is possible with all below it
 models-right : EachRight models
 unfolding models A A-timing I _gives_
 models-right =
@@ -142,7 +182,17 @@ models-right =
     (also I-right
     (also (consistent-by (rate 2) tt)
     (also (overweight-by (λ p. getD (11000 ∷ 11 ∷ 1 ∷ []) p 0) tt)
-    end))))))))))
+    (also (consistent-by (cycle (0 ∷ 1 ∷ [])) tt)
+    (also (blocked-by (λ p. 1) 7 1 tt)
+    (also (blocked-from-zero-by (λ p. 1) tt)
+    (also (blocked-from-zero-by (λ p. 1) tt)
+    (also (consistent-by (cycle (0 ∷ [])) tt)
+    (also (consistent-by (rate 1) tt)
+    (also (no-least-by (λ p. 1) 1 1 tt)
+    (also (no-least-by (λ p. 1) 1 1 tt)
+    (also (no-least-by (λ p. 1) 1 1 tt)
+    (also (no-least-by (λ p. 1) 1 1000 tt)
+    end))))))))))))))))))))
 
 -- ---- model A: event 4 of port 1 is reached at 9, and is allowed until 9
 A-chain : (time : Rational) × Chain (tableIn A) (A-timing .size) 1 4 time × (time ≈ whole 9)

@@ -4,7 +4,7 @@ use mathlib.Core.Path.{_≡_, refl, ap}
 use mathlib.Core.Bool.{Bool, true, false, not}
 use mathlib.Core.Logic.{_⊎_, inl, inr, ⊎-elim}
 use mathlib.Core.List.{List, [], _∷_, List·Memᴰ·head as here, List·Memᴰ·tail as there}
-use native.Mathlib.Nat.{eq-or-lt-of-le, le-of-suc-le-suc, mul-le-mul-right, lt-of-mul-lt-mul-right}
+use native.Mathlib.Nat.{eq-or-lt-of-le, le-of-suc-le-suc, mul-pos, mul-le-mul-right, le-of-mul-le-mul-right, lt-of-mul-lt-mul-right}
 use native.Mathlib.Omega.{arith}
 use lib.Dec.{T, T-not, eqb, leb, ltb, eqb→eq, eqb-refl, nleb→lt, lit<, lit≤}
 use lib.ListN.{getD}
@@ -12,7 +12,27 @@ use Rattle.numbers.specs.DivisorLaws.{divides-times, divides-rest, divides-one}
 use Rattle.numbers.specs.Divisors.{Coprime}
 use Rattle.exponents.specs.Tests.{both, both-left, both-right, either, either-cases}
 use Rattle.numbers.specs.Lists.{_∈_, sum, Distinct, none, more}
-use Rattle.specification.specs.Periods.{Graph, Walk, stop, step, reached, gain, loss, Meets, LeastStarts, Cycle, RateLimit, CycleLimit, Blocks, Period, ConnectionIn, graphIn}
+use Rattle.specification.specs.Periods.{
+  Graph,
+  Walk,
+  stop,
+  step,
+  reached,
+  gain,
+  loss,
+  Meets,
+  LeastStarts,
+  Cycle,
+  RateLimit,
+  CycleLimit,
+  Blocks,
+  BlocksAboveZero,
+  Period,
+  Possible,
+  NoLeast,
+  ConnectionIn,
+  graphIn,
+}
 use Rattle.specification.specs.Table.{
   mostPorts,
   mostLinks,
@@ -38,11 +58,12 @@ use Rattle.specification.specs.Table.{
 use Rattle.table.specs.WellFormed.{PartFits, PortFits, LinkFits, WellFormed}
 use Rattle.specification.specs.declared.Port.{Port}
 use Rattle.specification.specs.declared.Link.{Link}
-use Rattle.specification.specs.Ratios.{Joined, Component, Proportional, Weights, Overweight, mostWeight, SmallWeights}
-use Rattle.ways.specs.WayLaws.{joined-refl, joined-sym, joined-trans, linked}
+use Rattle.specification.specs.Ratios.{Joined, Component, IsComponent, Proportional, Weights, Overweight, mostWeight, SmallWeights}
+use Rattle.ways.specs.WayLaws.{joined-refl, joined-sym, joined-trans, linked, component-unique}
 use Rattle.ways.specs.WeightLaws.{joined-proportion}
+use Rattle.period.specs.JustAbove.{above-zero-is}
 use Rattle.period.specs.Limits.{serves-meets}
-use Rattle.specification.specs.Answers.{Timing, Floor, rate, cycle, IsFloor, NoPeriod, Size, Consistent}
+use Rattle.specification.specs.Answers.{Timing, Floor, rate, cycle, zeroFloor, Blocked, NoPeriod, NoLeastPeriod, Size, Consistent}
 
 -- ---- all tests of a list, and one test at each number below another
 abbrev all : List Bool → Bool
@@ -90,6 +111,20 @@ distinct-is [] h = none
 distinct-is (x ∷ xs) h =
     more (not-in x xs (both-left (absent x xs) (distinct xs) h)) (distinct-is xs (both-right (absent x xs) (distinct xs) h))
 
+-- ---- E and D of a connection
+-- what is not positive at zero and at a/b is not between
+not-positive-below : (e⁺ e⁻ d⁺ d⁻ a b x y : ℕ) → 0 < a → e⁺ ≤ e⁻ → e⁺ * b + d⁺ * a ≤ e⁻ * b + d⁻ * a → x * b ≤ a * y
+    → e⁺ * y + d⁺ * x ≤ e⁻ * y + d⁻ * x
+not-positive-below e⁺ e⁻ d⁺ d⁻ a b x y some e h l =
+    let split : e⁻ ≡ e⁺ + (e⁻ - e⁺) = omega arith in
+    le-of-mul-le-mul-right {k = a} (omega (
+      arith,
+      mul-le-mul-right x h,
+      mul-le-mul-right (e⁻ - e⁺) l,
+      ap (λ (z : ℕ). z * (x * b)) split,
+      ap (λ (z : ℕ). z * (a * y)) split,
+    )) some
+
 -- ---- the table is within its limits
 abbrev part : ℕ → List Bool
 part x = ltb 0 x ∷ leb x mostPart ∷ []
@@ -97,11 +132,35 @@ part x = ltb 0 x ∷ leb x mostPart ∷ []
 part-fits : (x : ℕ) → T (all (part x)) → PartFits x
 part-fits x h = record { least = lit< (passed (part x) h 0); most = lit≤ (passed (part x) h 1) }
 
+-- a port has no rate, or one with both parts above zero
+abbrev noRate : Port → List Bool
+noRate p = eqb (p .num) 0 ∷ eqb (p .den) 0 ∷ []
+
+abbrev someRate : Port → List Bool
+someRate p = ltb 0 (p .num) ∷ ltb 0 (p .den) ∷ []
+
 abbrev portTests : Port → List Bool
-portTests p = all (part (p .num)) ∷ all (part (p .den)) ∷ []
+portTests p = leb (p .num) mostPart ∷ leb (p .den) mostPart ∷ either (all (noRate p)) (all (someRate p)) ∷ []
 
 port-fits : (p : Port) → T (all (portTests p)) → PortFits p
-port-fits p h = record { num = part-fits (p .num) (passed (portTests p) h 0); den = part-fits (p .den) (passed (portTests p) h 1) }
+port-fits p h = ⊎-elim
+    (λ (k : T (all (noRate p))).
+    let num : p .num ≡ 0 = equal (passed (noRate p) k 0) in
+    let den : p .den ≡ 0 = equal (passed (noRate p) k 1) in
+    fits (λ some. absurd (omega arith)) (λ zero. den))
+    (λ (k : T (all (someRate p))).
+    let num : 0 < p .num = lit< (passed (someRate p) k 0) in
+    let den : 0 < p .den = lit< (passed (someRate p) k 1) in
+    fits (λ some. den) (λ zero. absurd (omega arith)))
+    (either-cases (all (noRate p)) (all (someRate p)) (passed (portTests p) h 2))
+  where
+    fits : (0 < p .num → 0 < p .den) → (p .num ≡ 0 → p .den ≡ 0) → PortFits p
+    fits rated unrated = record {
+      num-most = lit≤ (passed (portTests p) h 0);
+      den-most = lit≤ (passed (portTests p) h 1);
+      rated = rated;
+      unrated = unrated;
+    }
 
 abbrev linkTests : ℕ → Link → List Bool
 linkTests n l =
@@ -247,19 +306,30 @@ module _ (t : Table) where
     abbrev cycles : List ℕ → List Bool
     cycles path = walks (from t (getD path 0 0)) (from t (getD path 0 0)) path ∷ distinct (reached graph path) ∷ []
 
+    -- a/b is the floor, which is not zero
     abbrev floors : Floor → ℕ → ℕ → List Bool
-    floors (rate p) a b = ltb p ports ∷ eqb (graph .limitNum p * b) (graph .limitDen p * a) ∷ []
+    floors (rate p) a b = ltb p ports ∷ ltb 0 (graph .limitDen p) ∷ eqb (graph .limitNum p * b) (graph .limitDen p * a) ∷ []
     floors (cycle path) a b =
         all (cycles path)
         ∷ ltb (sum (graph .D⁺) path) (sum (graph .D⁻) path)
         ∷ eqb (sum (gain graph a b) path) (sum (loss graph a b) path)
         ∷ []
+    floors zeroFloor a b = false ∷ []
 
     abbrev blocks : List ℕ → ℕ → ℕ → List Bool
     blocks path a b =
         all (cycles path)
         ∷ leb (sum (graph .D⁻) path) (sum (graph .D⁺) path)
         ∷ ltb (sum (loss graph a b) path) (sum (gain graph a b) path)
+        ∷ []
+
+    -- above the floor zero: E and D are zero or more, and not both are zero
+    abbrev blocksAboveZero : List ℕ → List Bool
+    blocksAboveZero path =
+        all (cycles path)
+        ∷ leb (sum (graph .D⁻) path) (sum (graph .D⁺) path)
+        ∷ leb (sum (graph .E⁻) path) (sum (graph .E⁺) path)
+        ∷ ltb (sum (graph .E⁻) path + sum (graph .D⁻) path) (sum (graph .E⁺) path + sum (graph .D⁺) path)
         ∷ []
 
     module _ (s : Single) where
@@ -283,18 +353,27 @@ module _ (t : Table) where
         simple = distinct-is (reached graph path) (passed (cycles path) h 1);
       }
 
-      floor-is : (floor : Floor) (a b : ℕ) → T (all (floors floor a b)) → IsFloor graph floor a b
-      floor-is (rate p) a b h =
+      rate-limit : (p a b : ℕ) → T (all (floors (rate p) a b)) → RateLimit graph p a b
+      rate-limit p a b h =
           let i : p < ports = lit< (passed (floors (rate p) a b) h 0) in
           record {
             a-port = record { a-port = record { below = i }; component = s .component p i };
-            exact = equal (passed (floors (rate p) a b) h 1);
+            rated = lit< (passed (floors (rate p) a b) h 1);
+            exact = equal (passed (floors (rate p) a b) h 2);
           }
-      floor-is (cycle path) a b h = record {
+
+      cycle-limit : (path : List ℕ) (a b : ℕ) → T (all (floors (cycle path) a b)) → CycleLimit graph path a b
+      cycle-limit path a b h = record {
         cycle = cycle-is path (passed (floors (cycle path) a b) h 0);
         falling = lit< (passed (floors (cycle path) a b) h 1);
         exact = equal (passed (floors (cycle path) a b) h 2);
       }
+
+      floor-limit : (floor : Floor) (a b : ℕ) → T (all (floors floor a b))
+          → ((p : ℕ) × RateLimit graph p a b) ⊎ ((path : List ℕ) × CycleLimit graph path a b)
+      floor-limit (rate p) a b h = inl (p, rate-limit p a b h)
+      floor-limit (cycle path) a b h = inr (path, cycle-limit path a b h)
+      floor-limit zeroFloor a b h = absurd h
 
       block-is : (path : List ℕ) (a b : ℕ) → T (all (blocks path a b)) → Blocks graph path a b
       block-is path a b h = record {
@@ -303,9 +382,83 @@ module _ (t : Table) where
         positive = lit< (passed (blocks path a b) h 2);
       }
 
+      blocked-is : (floor : Floor) (block : List ℕ) (a b : ℕ) → 0 < a → 0 < b → T (all (floors floor a b)) → T (all (blocks block a b))
+          → Blocked graph floor block
+      blocked-is (rate p) block a b some over h k =
+          record { a = a; b = b; above-zero = some; over = over; is-limit = rate-limit p a b h; blocks = block-is block a b k }
+      blocked-is (cycle path) block a b some over h k =
+          record { a = a; b = b; above-zero = some; over = over; is-limit = cycle-limit path a b h; blocks = block-is block a b k }
+      blocked-is zeroFloor block a b some over h k = absurd h
+
+      block-above-zero-is : (path : List ℕ) → T (all (blocksAboveZero path)) → BlocksAboveZero graph path
+      block-above-zero-is path h =
+          above-zero-is (cycle-is path (passed (blocksAboveZero path) h 0)) .1
+          (record {
+            ticks = lit≤ (passed (blocksAboveZero path) h 2);
+            events = lit≤ (passed (blocksAboveZero path) h 1);
+            not-both = lit< (passed (blocksAboveZero path) h 3);
+          })
+
     -- ---- number 15, with a/b at the floor
     abbrev blocked : Floor → List ℕ → ℕ → ℕ → List Bool
-    blocked floor block a b = all single ∷ all (small w) ∷ ltb 0 b ∷ all (floors floor a b) ∷ all (blocks block a b) ∷ []
+    blocked floor block a b = all single ∷ all (small w) ∷ ltb 0 a ∷ ltb 0 b ∷ all (floors floor a b) ∷ all (blocks block a b) ∷ []
+
+    -- and at the floor zero
+    abbrev blockedFromZero : List ℕ → List Bool
+    blockedFromZero block = all single ∷ all (small w) ∷ below (λ p. all (noRate (port t p))) ports ∷ all (blocksAboveZero block) ∷ []
+
+    -- ---- number 17: no port has a rate, and no connection adds anything at zero or at a/b, so none does between
+    abbrev addsNothing : ℕ → ℕ → ℕ → List Bool
+    addsNothing a b k = leb (ε⁺ t k) (ε⁻ t k) ∷ leb (gain graph a b k) (loss graph a b k) ∷ []
+
+    abbrev withoutLeast : ℕ → ℕ → List Bool
+    withoutLeast a b =
+        all single
+        ∷ all (small w)
+        ∷ ltb 0 a
+        ∷ ltb 0 b
+        ∷ below (λ p. all (noRate (port t p))) ports
+        ∷ below (λ k. all (addsNothing a b k)) links
+        ∷ []
+
+    module _ (a b : ℕ) (h : T (all (withoutLeast a b))) where
+      above-zero : 0 < a
+      above-zero = lit< (passed (withoutLeast a b) h 2)
+
+      possible-below : (x y : ℕ) → 0 < x → 0 < y → x * b ≤ a * y → Possible graph x y
+      possible-below x y some over l = record {
+        above-zero = some;
+        over = over;
+        rates = λ p i.
+            let tests = at (λ q. all (noRate (port t q))) ports (passed (withoutLeast a b) h 4) p (i .a-port .below) in
+            let den : port t p .den ≡ 0 = equal (passed (noRate (port t p)) tests 1) in
+            omega (arith, ap (λ (z : ℕ). z * y) den);
+        start = λ p. 0;
+        meets = record {
+          holds = λ k e.
+              let tests = at (λ j. all (addsNothing a b j)) links (passed (withoutLeast a b) h 5) k (e .connection .a-link .below) in
+              omega (
+                arith,
+                not-positive-below (ε⁺ t k) (ε⁻ t k) (graph .D⁺ k) (graph .D⁻ k) a b x y above-zero
+                    (lit≤ (passed (addsNothing a b k) tests 0)) (lit≤ (passed (addsNothing a b k) tests 1)) l,
+              );
+        };
+      }
+
+      -- below a′/b′ and below a/b lies a · a′ / (a · b′ + b · a′)
+      no-least-is : NoLeast graph
+      no-least-is = record {
+        some = record { a = a; b = b; possible = possible-below a b above-zero over (omega arith) };
+        smaller = λ a′ b′ some′ over′ serves. record {
+          x = a * a′;
+          y = a * b′ + b * a′;
+          possible = possible-below (a * a′) (a * b′ + b * a′) (mul-pos above-zero some′) (omega (arith, mul-pos above-zero over′)) (omega arith);
+          less = omega (arith, mul-pos (mul-pos some′ over) some′);
+        };
+      }
+        where
+          over : 0 < b
+          over = lit< (passed (withoutLeast a b) h 3)
 
 pub overweight-by : {t : Table} (w : ℕ → ℕ) → T (all (over t w)) → Overweight t
 overweight-by {t} w h =
@@ -318,33 +471,63 @@ overweight-by {t} w h =
       passes = lit< (passed (over t w) h 2);
     }
 
+-- port 0 names the one component
+zeroth : {t : Table} → Single t → IsComponent t 0
+zeroth s = record { a-port = record { below = s .formed .some-port }; lowest = s .component 0 (s .formed .some-port) }
+
+-- number 15, whatever the floor is
+no-period : {t : Table} {floor : Floor} {block : List ℕ} (w : ℕ → ℕ) (s : Single t) → T (all (small t w)) → Blocked (graphIn t w 0) floor block
+    → NoPeriod t floor block
+no-period {t} w s h k = record {
+  w = w;
+  weights = small-weights t w s h;
+  c = 0;
+  component = zeroth s;
+  is-blocked = k;
+  lower = λ d i l. absurd (omega arith);
+}
+
 pub blocked-by : {t : Table} {floor : Floor} {block : List ℕ} (w : ℕ → ℕ) (a b : ℕ) → T (all (blocked t w floor block a b))
     → NoPeriod t floor block
 blocked-by {t} {floor} {block} w a b h =
     let tests = blocked t w floor block a b in
     let s = single-is t (passed tests h 0) in
+    no-period w s (passed tests h 1) (blocked-is t w s floor block a b (lit< (passed tests h 2)) (lit< (passed tests h 3)) (passed tests h 4) (passed tests h 5))
+
+pub blocked-from-zero-by : {t : Table} {block : List ℕ} (w : ℕ → ℕ) → T (all (blockedFromZero t w block)) → NoPeriod t zeroFloor block
+blocked-from-zero-by {t} {block} w h =
+    let tests = blockedFromZero t w block in
+    let s = single-is t (passed tests h 0) in
+    no-period {floor = zeroFloor} w s (passed tests h 1) (record {
+      is-zero = record {
+        unrated = λ p i.
+            let rates = at (λ q. all (noRate (port t q))) (ports t) (passed tests h 2) p (i .a-port .below) in
+            let num : port t p .num ≡ 0 = equal (passed (noRate (port t p)) rates 0) in
+            omega (arith, ap (λ (z : ℕ). z * w p) num);
+      };
+      blocks = block-above-zero-is t w s block (passed tests h 3);
+    })
+
+pub no-least-by : {t : Table} (w : ℕ → ℕ) (a b : ℕ) → T (all (withoutLeast t w a b)) → NoLeastPeriod t
+no-least-by {t} w a b h =
+    let tests = withoutLeast t w a b in
+    let s = single-is t (passed tests h 0) in
+    let no-least = no-least-is t w a b h in
     record {
       w = w;
       weights = small-weights t w s (passed tests h 1);
+      component = λ p. 0;
+      components = λ p i. s .component p (i .below);
+      periods = λ d i. rw (component-unique (i .lowest) (s .component d (i .a-port .below))) (no-least .some);
       c = 0;
-      component = record { a-port = record { below = s .formed .some-port }; lowest = s .component 0 (s .formed .some-port) };
-      a = a;
-      b = b;
-      over = lit< (passed tests h 2);
-      is-floor = floor-is t w s floor a b (passed tests h 3);
-      blocks = block-is t w s block a b (passed tests h 4);
-      lower = λ d i l. absurd (omega arith);
+      is-component = zeroth s;
+      no-least = no-least;
     }
 
 -- ---- number 0
 -- b divides a − 1: enough for the models, and computed by one division
 coprime-by : {a b : ℕ} (y : ℕ) → a ≡ b * y + 1 → Coprime a b
 coprime-by {a} {b} y e = record { only = λ d p q. divides-one (divides-rest (b * y) (divides-times y q) (rw (← e) p)) }
-
-floor-limit : {g : Graph} {a b : ℕ} (floor : Floor) → IsFloor g floor a b
-    → ((p : ℕ) × RateLimit g p a b) ⊎ ((path : List ℕ) × CycleLimit g path a b)
-floor-limit (rate p) l = inl (p, l)
-floor-limit (cycle path) l = inr (path, l)
 
 -- d is 0, or d − 1 is too few
 no-fewer : (x y z d e : ℕ) → T (either (eqb d 0) (not (leb x (y + (d - 1) * z)))) → x ≤ y + e * z → d ≤ e
@@ -442,7 +625,7 @@ module _ (t : Table) (r : Timing) where
         lowest = coprime-by ((a - 1) / b) (equal (passed (timely floor a b) h 1));
         serves = serves-meets (starts-meet (passed (timely floor a b) h 4))
             (λ p i. lit≤ (at (slow a b) (ports t) (passed (timely floor a b) h 3) p (i .a-port .below)));
-        limit = floor-limit floor (floor-is t (r .weight) s floor a b (passed (timely floor a b) h 2));
+        limit = floor-limit t (r .weight) s floor a b (passed (timely floor a b) h 2);
       }
 
       starts-are : r .start 0 ≡ 0 → LeastStarts (graph t (r .weight)) a b (r .start)

@@ -10,7 +10,7 @@ use Rattle.ways.specs.WayLaws.{linked}
 use Rattle.specification.specs.Periods.{ConnectionIn}
 use Rattle.specification.specs.Answers.{Timing, periodOf, startOf, Consistent}
 use Rattle.specification.specs.Solutions.{ε}
-use Rattle.specification.specs.Chains.{Chain, first, spacing, connection, buffer, Bounded}
+use Rattle.specification.specs.Chains.{Chain, first, spacing, free-spacing, connection, buffer, Bounded}
 use Rattle.demands.specs.ConstraintLaws.{from-port, to-port}
 use Rattle.demands.specs.SamePeriod.{same-period}
 
@@ -26,10 +26,15 @@ record Waits (t : Table) (r : Timing) (n d⁺ d⁻ : ℕ) : Type 0 where
 within-bound : {r : Timing} {p k : ℕ} {time : Rational} → Within r p k time → time ≼ startOf r p ⊕ k · periodOf r p
 within-bound {r} {p} h = record { holds = omega (arith, mul-le-mul-right (r .b p) (h .holds)) }
 
+-- a port without a rate waits for nothing between its events
+within-next : {r : Timing} {p k : ℕ} {time : Rational} → Within r p k time → Within r p (suc k) time
+within-next h = record { holds = omega (arith, h .holds) }
+
 module _ {t : Table} {r : Timing} (formed : WellFormed t) (right : Consistent t r) where
   chain-port : {p k : ℕ} {time : Rational} → Chain t (r .size) p k time → IsPort t p
   chain-port (first p k i) = i
   chain-port (spacing c some) = chain-port c
+  chain-port (free-spacing c none) = chain-port c
   chain-port (connection n k i c e) = to-port formed n (i .a-link)
   chain-port (buffer n k i c e) = to-port formed n (i .a-link)
 
@@ -63,7 +68,7 @@ module _ {t : Table} {r : Timing} (formed : WellFormed t) (right : Consistent t 
 
     within-link : {time : Rational} → Within r (from t n) m time → Within r (to t n) k (time ⊕ ε t n)
     within-link {time} h =
-        let same = same-period formed right (from-port formed n i) (to-port formed n i) (linked i) in
+        let same = same-period right (from-port formed n i) (to-port formed n i) (linked i) in
         record { holds = rw (← (same .a), ← (same .b)) (omega (arith, h .holds, mul-le-mul-right (time .over) events-below)) }
 
   size-waits : {n : ℕ} → IsBuffer t n → Waits t r n 0 (r .size n)
@@ -78,6 +83,7 @@ module _ {t : Table} {r : Timing} (formed : WellFormed t) (right : Consistent t 
   within : {p k : ℕ} {time : Rational} → Chain t (r .size) p k time → Within r p k time
   within (first p k i) = record { holds = omega arith }
   within (spacing c some) = within-spacing (chain-port c) some (within c)
+  within (free-spacing c none) = within-next (within c)
   within (connection {m = m} n k i c e) = within-link n k m (i .a-link) (connection-waits i) e (within c)
   within (buffer {m = m} n k i c e) = within-link n k m (i .a-link) (size-waits i) (omega arith) (within c)
 

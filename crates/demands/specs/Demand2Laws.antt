@@ -1,19 +1,19 @@
--- Demand 2: a right answer is consistent exactly when a solution exists, and then its periods and starts are the least.
+-- Demand 2: a right answer has number 0 or 17 exactly when a solution exists; at 0 its periods and starts are the least, at 17 none are.
 use Prim.Native.Nat.{ℕ, suc, _+_, _*_, _-_, _/_, _≤_, _<_}
 use mathlib.Core.Path.{_≡_, refl, ap}
-use mathlib.Core.Logic.{_≢_, _↔_}
+use mathlib.Core.Logic.{_≢_, _↔_, inl, inr, ⊎-elim}
 use mathlib.Core.List.{List}
 use native.Mathlib.Nat.{div-mul-le-self, lt-mul-div-succ, mul-pos, mul-le-mul-right, mul-lt-mul-of-pos-right, lt-of-mul-lt-mul-right, le-of-mul-le-mul-right}
 use native.Mathlib.Omega.{arith}
 use Rattle.numbers.specs.Rationals.{Rational, _≼_, _⊕_, whole, share, ratio}
 use Rattle.numbers.specs.RationalLaws.{≼-trans, ≈-≼, ≈-sym, ⊕-right-≼, as-share}
-use Rattle.specification.specs.Periods.{gain, loss, Meets, Serves, PortIn, ConnectionIn, graphIn}
+use Rattle.specification.specs.Periods.{Graph, gain, loss, Meets, Serves, PortIn, ConnectionIn, graphIn}
 use Rattle.table.specs.WellFormed.{WellFormed}
-use Rattle.specification.specs.Table.{Table, port, IsPort, IsLink, from, to, den, IsBuffer}
+use Rattle.specification.specs.Table.{Table, IsPort, IsLink, from, to, den, IsBuffer}
 use Rattle.specification.specs.Ratios.{Joined, Component, Proportional}
 use Rattle.ways.specs.WayLaws.{joined-sym, joined-trans, linked}
 use Rattle.ways.specs.WeightLaws.{disagreeing as not-agreeing}
-use Rattle.period.specs.Limits.{limit-below, rate-below, blocked as blocked-serves, period-least}
+use Rattle.period.specs.Limits.{limit-below, rate-below, blocked as blocked-serves, blocked-above-zero, period-least}
 use Rattle.specification.specs.Answers.{
   Timing,
   periodOf,
@@ -21,14 +21,16 @@ use Rattle.specification.specs.Answers.{
   Floor,
   rate,
   cycle,
+  zeroFloor,
   Answer,
   refused,
   disagreeing,
   overweight,
   blocked,
+  noLeast,
   consistent,
   number,
-  IsFloor,
+  Blocked,
   NoPeriod,
   Enough,
   Consistent,
@@ -38,6 +40,7 @@ use Rattle.specification.specs.Solutions.{Ratios, Starts, IsSolution, Solution,
 use Rattle.demands.specs.Demands.{Demand2}
 use Rattle.demands.specs.ConstraintLaws.{from-port, to-port, from-in, to-in, names-component}
 use Rattle.demands.specs.SamePeriod.{SamePeriod, same-period}
+use Rattle.demands.specs.NoLeastLaws.{no-least-solved, no-least-solution}
 use Rattle.demands.specs.SolutionLaws.{PeriodsOver, edge-cost, starts-over, solution-agree, solution-serves}
 
 -- ports of one component are joined
@@ -71,23 +74,26 @@ rounded-≼ {x} {y} {b} over m n i j h =
     )) in
     omega arith
 
-module _ {t : Table} (formed : WellFormed t) where
-  -- a rate limit has a denominator
-  limit-over : {w : ℕ → ℕ} → Proportional t w → (p : ℕ) → IsPort t p → 0 < port t p .num * w p
-  limit-over fits p i = mul-pos (formed .ports p (i .below) .num .least) (fits .positive p i)
+-- ---- no a/b
+-- whatever the floor is, a cycle that blocks above it leaves no a/b
+blocked-none : {g : Graph} {a b : ℕ} (floor : Floor) (block : List ℕ) → Blocked g floor block → 0 < a → 0 < b → ¬ Serves g a b
+blocked-none {a = a} {b = b} (rate p) block h some over = blocked-serves (λ a′ b′ s o. rate-below (h .is-limit) s) (h .blocks) a b over
+blocked-none {a = a} {b = b} (cycle path) block h some over = blocked-serves (λ a′ b′ s o. limit-below (h .is-limit) s) (h .blocks) a b over
+blocked-none zeroFloor block h some over = blocked-above-zero (h .blocks) some over
 
+module _ {t : Table} (formed : WellFormed t) where
   module _ {r : Timing} (h : Consistent t r) where
     prop : Proportional t (r .weight)
     prop = h .weights .weights .proportional
 
     period-below : {p a b : ℕ} → IsPort t p → Serves (graphIn t (r .weight) (r .component p)) a b → r .a p * b ≤ a * r .b p
-    period-below {p} i s = period-least (λ q m. limit-over prop q (m .a-port)) (h .periods p i) s
+    period-below {p} i s = period-least (h .periods p i) s
 
     own-component : (p : ℕ) → IsPort t p → PortIn t (r .component p) p
     own-component p i = record { a-port = i; component = h .components p i }
 
     same-in : {p q : ℕ} → IsPort t p → PortIn t (r .component p) q → SamePeriod r p q
-    same-in {p} i m = same-period formed h i (m .a-port) (joined-both (h .components p i) (m .component))
+    same-in {p} i m = same-period h i (m .a-port) (joined-both (h .components p i) (m .component))
 
     -- the returned periods of p's component, over p's b
     periods-over : (p : ℕ) → IsPort t p → PeriodsOver t (r .weight) (r .component p) (periodOf r) (r .a p) (r .b p) (r .over p)
@@ -114,7 +120,7 @@ module _ {t : Table} (formed : WellFormed t) where
 
     timing-ratios : Ratios t (periodOf r)
     timing-ratios = record {
-      holds = λ k l. let s = same-period formed h (from-port formed k l) (to-port formed k l) (linked l) in omega (
+      holds = λ k l. let s = same-period h (from-port formed k l) (to-port formed k l) (linked l) in omega (
         arith,
         ap (λ (x : ℕ). x * r .a (to t k) * r .b (from t k)) (prop .fits k l),
         ap (λ (x : ℕ). den t k * r .weight (from t k) * x * r .b (to t k)) (s .a),
@@ -166,7 +172,7 @@ module _ {t : Table} (formed : WellFormed t) where
     -- the rule over one denominator, which sender and receiver share
     enough-is : (k d : ℕ) → IsLink t k → Enough t r k d ↔ EventsEnough t (periodOf r) (startOf r) k d
     enough-is k d l =
-        let b = same-period formed h (from-port formed k l) (to-port formed k l) (linked l) .b in (
+        let b = same-period h (from-port formed k l) (to-port formed k l) (linked l) .b in (
           λ e. record { holds = record { holds = rw (← b) (omega (arith, mul-le-mul-right (r .b (from t k) * r .b (from t k)) (e .holds))) } },
           λ e. record {
             holds =
@@ -190,34 +196,36 @@ module _ {t : Table} (formed : WellFormed t) where
     }
 
   -- ---- no solution
-  floor-below : {w : ℕ → ℕ} {c a′ b′ : ℕ} (floor : Floor) (a b : ℕ) → Proportional t w → IsFloor (graphIn t w c) floor a b
-      → Serves (graphIn t w c) a′ b′
-      → a * b′ ≤ a′ * b
-  floor-below (rate p) a b fits l s = rate-below (limit-over fits p (l .a-port .a-port)) l s
-  floor-below (cycle path) a b fits l s = limit-below l s
+  pub none-blocked : {floor : Floor} {block : List ℕ} → NoPeriod t floor block → ¬ Solution t
+  none-blocked {floor} {block} n s =
+      let v = solution-serves formed s (n .weights .weights .proportional) (n .component) in
+      blocked-none floor block (n .is-blocked) (v .above-zero) (v .over) (v .serves)
 
-  none-blocked : {floor : Floor} {block : List ℕ} → NoPeriod t floor block → ¬ Solution t
-  none-blocked {floor} n s =
-      let fits = n .weights .weights .proportional in
-      let v = solution-serves formed s fits (n .component) in
-      blocked-serves (λ a b serves some. floor-below floor (n .a) (n .b) fits (n .is-floor) serves) (n .blocks) (v .a) (v .b) (v .over) (v .serves)
-
--- an answer of another number than 0, where no solution exists or the number is 14
-other-number : {t : Table} {x : Answer} → number x ≢ 0 → (Solution t → number x ≢ 14 → ⊥) → Demand2 t x
-other-number other none = record {
-  solved = λ e. absurd (other e);
+-- an answer of another number than 0 and 17, where no solution exists or the number is 14
+other-number : {t : Table} {x : Answer} → number x ≢ 0 → number x ≢ 17 → (Solution t → number x ≢ 14 → ⊥) → Demand2 t x
+other-number {t} {x} f g none = record {
+  solved = λ e. absurd (⊎-elim (λ (z : number x ≡ 0). f z) (λ (z : number x ≡ 17). g z) e);
   only = λ s e. absurd (none s e);
-  least = λ r e. absurd (other (ap number e));
+  least = λ r e. absurd (f (ap number e));
+  no-least = λ e. absurd (g e);
 }
 
 pub demand-2 : {t : Table} {x : Answer} → WellFormed t → Right t x → Demand2 t x
 demand-2 {x = refused n} formed h = absurd h
 demand-2 {x = disagreeing loop} formed h =
-    other-number (λ e. omega (arith, e)) (λ s e. not-agreeing (h .way) (h .unequal) (solution-agree formed s))
-demand-2 {x = overweight} formed h = other-number (λ e. omega (arith, e)) (λ s e. e refl)
-demand-2 {x = blocked floor block} formed h = other-number (λ e. omega (arith, e)) (λ s e. none-blocked formed h s)
+    other-number (λ e. omega (arith, e)) (λ e. omega (arith, e)) (λ s e. not-agreeing (h .way) (h .unequal) (solution-agree formed s))
+demand-2 {x = overweight} formed h = other-number (λ e. omega (arith, e)) (λ e. omega (arith, e)) (λ s e. e refl)
+demand-2 {x = blocked floor block} formed h =
+    other-number (λ e. omega (arith, e)) (λ e. omega (arith, e)) (λ s e. none-blocked formed h s)
+demand-2 {x = noLeast} formed h = record {
+  solved = λ e. no-least-solved formed h;
+  only = λ s e. inr refl;
+  least = λ r e. absurd (omega (arith, ap number e));
+  no-least = λ e. no-least-solution formed h;
+}
 demand-2 {x = consistent r} formed h = record {
   solved = λ e. record { period = periodOf r; start = startOf r; meets = timing-solution formed h };
-  only = λ s e. refl;
+  only = λ s e. inl refl;
   least = λ r′ e. let same : r ≡ r′ = cc in rw same at (timing-least formed h);
+  no-least = λ e. absurd (omega (arith, e));
 }

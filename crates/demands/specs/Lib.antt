@@ -5,6 +5,7 @@ pub mod SolutionLaws
 pub mod Demands
 pub mod Room
 pub mod SamePeriod
+pub mod NoLeastLaws
 pub mod Demand2Laws
 pub mod Reordered
 pub mod OrderLaws

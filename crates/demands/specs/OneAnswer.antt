@@ -22,6 +22,7 @@ use Rattle.demands.specs.OrderLaws.{
   both-disagreeing,
   both-overweight,
   both-blocked,
+  both-no-least,
   both-consistent,
   answers-pair,
 }
@@ -60,6 +61,7 @@ same-answer (both-refused n f) = record { same-number = refl; same-records = λ 
 same-answer (both-disagreeing l m) = record { same-number = refl; same-records = λ e f. absurd (e refl) }
 same-answer both-overweight = record { same-number = refl; same-records = λ e f. refl }
 same-answer (both-blocked f g b c) = record { same-number = refl; same-records = λ d e. absurd (e refl) }
+same-answer both-no-least = record { same-number = refl; same-records = λ e f. refl }
 same-answer {t} (both-consistent o h k) = record {
   same-number = refl;
   same-records = λ e f.

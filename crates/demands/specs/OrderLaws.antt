@@ -9,7 +9,7 @@ use native.Mathlib.Nat.{le-antisymm, eq-of-mul-eq-mul-left, eq-of-mul-eq-mul-rig
 use native.Mathlib.Omega.{arith}
 use lib.ListN.{length, getD}
 use Rattle.numbers.specs.Rationals.{Rational, _≼_, _≈_, _⊕_, _·_, _⊗_, signed, whole}
-use Rattle.numbers.specs.RationalLaws.{≼-trans, ≼-antisym, ≈-≼, ≈-sym}
+use Rattle.numbers.specs.RationalLaws.{≼-trans, ≼-not-≺, ≼-antisym, ≈-≼, ≈-sym}
 use Rattle.numbers.specs.Gcd.{coprime-unique}
 use Rattle.numbers.specs.ListLaws.{lt-or-le}
 use Rattle.table.specs.WellFormed.{WellFormed}
@@ -29,10 +29,12 @@ use Rattle.specification.specs.Answers.{
   disagreeing,
   overweight,
   blocked,
+  noLeast,
   consistent,
   number,
   portRecords,
   NoPeriod,
+  NoLeastPeriod,
   Consistent,
   Right,
   leastRoom,
@@ -44,7 +46,8 @@ use Rattle.ways.specs.WayLaws.{joined-refl, joined-trans, component-unique}
 use Rattle.ways.specs.WeightLaws.{no-proportion, weights-unique}
 use Rattle.demands.specs.ConstraintLaws.{from-port}
 use Rattle.demands.specs.SolutionLaws.{added-≈}
-use Rattle.demands.specs.Demand2Laws.{demand-2}
+use Rattle.demands.specs.NoLeastLaws.{no-least-solved, no-least-solution}
+use Rattle.demands.specs.Demand2Laws.{none-blocked, demand-2}
 use Rattle.demands.specs.Reordered.{Reordered, reordered-back}
 
 -- ---- from one table to the other: `-there` from t to u, `-back` from u to t
@@ -136,15 +139,17 @@ starts-≈ {t} {S = S} formed same h = record {
 least-of : {t : Table} {r : Timing} → WellFormed t → Consistent t r → LeastSolution t r
 least-of {r = r} formed h = demand-2 formed h .least r refl
 
--- the solution of the other table
-solution-of : {t u : Table} {r : Timing} → TwoOrders t u → Consistent u r → Solution t
-solution-of {r = r} o h =
-    record { period = periodOf r; start = startOf r; meets = solution-back (o .same) (least-of (o .other) h .solution) }
+solution-of : {t : Table} {r : Timing} → WellFormed t → Consistent t r → Solution t
+solution-of {r = r} formed h = record { period = periodOf r; start = startOf r; meets = least-of formed h .solution }
+
+-- a solution of the other table
+abbrev other-solution : {t u : Table} → TwoOrders t u → Solution u → Solution t
+other-solution o s = record { period = s .period; start = s .start; meets = solution-back (o .same) (s .meets) }
 
 period-least : {t u : Table} {r r′ : Timing} → TwoOrders t u → Consistent t r → Consistent u r′ → (p : ℕ) → IsPort t p
     → periodOf r p ≼ periodOf r′ p
 unfolding solution-of
-period-least o h h′ p i = least-of (o .one) h .least-periods (solution-of o h′) p i
+period-least o h h′ p i = least-of (o .one) h .least-periods (other-solution o (solution-of (o .other) h′)) p i
 
 same-periods : {t u : Table} {r r′ : Timing} → TwoOrders t u → Consistent t r → Consistent u r′ → (p : ℕ) → IsPort t p
     → periodOf r p ≈ periodOf r′ p
@@ -155,7 +160,7 @@ start-least : {t u : Table} {r r′ : Timing} → TwoOrders t u → Consistent t
 unfolding solution-of
 start-least {r′ = r′} o h h′ p i =
     least-of (o .one) h .least-starts (startOf r′) (λ q j. omega arith)
-    (starts-≈ (o .one) (λ q j. ≈-sym (same-periods o h h′ q j)) (solution-of o h′ .meets .starts)) p i
+    (starts-≈ (o .one) (λ q j. ≈-sym (same-periods o h h′ q j)) (other-solution o (solution-of (o .other) h′) .meets .starts)) p i
 
 pub same-port : {t u : Table} {r r′ : Timing} → TwoOrders t u → Consistent t r → Consistent u r′ → (p : ℕ) → IsPort t p → SamePort r r′ p
 same-port {r = r} {r′ = r′} o h h′ p i =
@@ -197,10 +202,16 @@ not-overweight o l h = omega (
   l .passes,
 )
 
-not-blocked : {t u : Table} {floor : Floor} {block : List ℕ} {r : Timing} → TwoOrders t u → NoPeriod t floor block → ¬ Consistent u r
-not-blocked {floor = floor} {block = block} o n h =
-    let e = demand-2 {x = blocked floor block} (o .one) n .only (solution-of o h) (λ e. omega (arith, e)) in
-    omega (arith, e)
+not-blocked : {t u : Table} {floor : Floor} {block : List ℕ} → TwoOrders t u → NoPeriod t floor block → ¬ Solution u
+not-blocked o n s = none-blocked (o .one) n (other-solution o s)
+
+-- the periods of a consistent answer are the least, and at 17 none are
+not-without-least : {t u : Table} {r : Timing} → TwoOrders t u → NoLeastPeriod t → ¬ Consistent u r
+unfolding solution-of
+not-without-least o n h =
+    let l = no-least-solution (o .one) n in
+    let s = l .smaller (other-solution o (solution-of (o .other) h)) in
+    ≼-not-≺ (least-of (o .other) h .least-periods (other-solution (exchange o) (s .other)) (l .p) (port-there (o .same) (l .a-port))) (s .less)
 
 -- ---- two answers
 -- the pairs of answers to two tables: both of one kind
@@ -209,6 +220,7 @@ pub data Pair (t u : Table) : Answer → Answer → Type 0 where
   both-disagreeing : (loop loop′ : List Step) → Pair t u (disagreeing loop) (disagreeing loop′)
   both-overweight : Pair t u overweight overweight
   both-blocked : (floor floor′ : Floor) (block block′ : List ℕ) → Pair t u (blocked floor block) (blocked floor′ block′)
+  both-no-least : Pair t u noLeast noLeast
   both-consistent : {r r′ : Timing} → TwoOrders t u → Consistent t r → Consistent u r′ → Pair t u (consistent r) (consistent r′)
 
 pair-of : {t u : Table} {x y : Answer} → TwoOrders t u → Right t x → Right u y → Pair t u x y
@@ -216,22 +228,32 @@ pair-of {x = refused n} o h k = absurd h
 pair-of {x = disagreeing l} {y = refused n} o h k = absurd k
 pair-of {x = overweight} {y = refused n} o h k = absurd k
 pair-of {x = blocked f b} {y = refused n} o h k = absurd k
+pair-of {x = noLeast} {y = refused n} o h k = absurd k
 pair-of {x = consistent r} {y = refused n} o h k = absurd k
 pair-of {x = disagreeing l} {y = disagreeing m} o h k = both-disagreeing l m
 pair-of {x = disagreeing l} {y = overweight} o h k = absurd (not-disagreeing o h (k .weights))
 pair-of {x = disagreeing l} {y = blocked f b} o h k = absurd (not-disagreeing o h (k .weights .weights))
+pair-of {x = disagreeing l} {y = noLeast} o h k = absurd (not-disagreeing o h (k .weights .weights))
 pair-of {x = disagreeing l} {y = consistent r} o h k = absurd (not-disagreeing o h (k .weights .weights))
 pair-of {x = overweight} {y = disagreeing l} o h k = absurd (not-disagreeing (exchange o) k (h .weights))
 pair-of {x = overweight} {y = overweight} o h k = both-overweight
 pair-of {x = overweight} {y = blocked f b} o h k = absurd (not-overweight o h (k .weights))
+pair-of {x = overweight} {y = noLeast} o h k = absurd (not-overweight o h (k .weights))
 pair-of {x = overweight} {y = consistent r} o h k = absurd (not-overweight o h (k .weights))
 pair-of {x = blocked f b} {y = disagreeing l} o h k = absurd (not-disagreeing (exchange o) k (h .weights .weights))
 pair-of {x = blocked f b} {y = overweight} o h k = absurd (not-overweight (exchange o) k (h .weights))
 pair-of {x = blocked f b} {y = blocked g c} o h k = both-blocked f g b c
-pair-of {x = blocked f b} {y = consistent r} o h k = absurd (not-blocked o h k)
+pair-of {x = blocked f b} {y = noLeast} o h k = absurd (not-blocked o h (no-least-solved (o .other) k))
+pair-of {x = blocked f b} {y = consistent r} o h k = absurd (not-blocked o h (solution-of (o .other) k))
+pair-of {x = noLeast} {y = disagreeing l} o h k = absurd (not-disagreeing (exchange o) k (h .weights .weights))
+pair-of {x = noLeast} {y = overweight} o h k = absurd (not-overweight (exchange o) k (h .weights))
+pair-of {x = noLeast} {y = blocked f b} o h k = absurd (not-blocked (exchange o) k (no-least-solved (o .one) h))
+pair-of {x = noLeast} {y = noLeast} o h k = both-no-least
+pair-of {x = noLeast} {y = consistent r} o h k = absurd (not-without-least o h k)
 pair-of {x = consistent r} {y = disagreeing l} o h k = absurd (not-disagreeing (exchange o) k (h .weights .weights))
 pair-of {x = consistent r} {y = overweight} o h k = absurd (not-overweight (exchange o) k (h .weights))
-pair-of {x = consistent r} {y = blocked f b} o h k = absurd (not-blocked (exchange o) k h)
+pair-of {x = consistent r} {y = blocked f b} o h k = absurd (not-blocked (exchange o) k (solution-of (o .one) h))
+pair-of {x = consistent r} {y = noLeast} o h k = absurd (not-without-least (exchange o) k h)
 pair-of {x = consistent r} {y = consistent r′} o h k = both-consistent o h k
 
 -- two answers of one number, the first not consistent
@@ -243,6 +265,7 @@ same-of (both-refused n f) = only-number refl (λ r e. f (ap number e))
 same-of (both-disagreeing l m) = only-number refl (λ r e. omega (arith, ap number e))
 same-of both-overweight = only-number refl (λ r e. omega (arith, ap number e))
 same-of (both-blocked f g b c) = only-number refl (λ r e. omega (arith, ap number e))
+same-of both-no-least = only-number refl (λ r e. omega (arith, ap number e))
 same-of (both-consistent {r = r} {r′ = r′} o h k) = record {
   same-number = refl;
   same-ports = λ q q′ e e′ p i.

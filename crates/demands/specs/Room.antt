@@ -3,7 +3,7 @@ use Prim.Native.Nat.{ℕ, zero, suc, _+_, _*_, _≤_, _<_}
 use mathlib.Core.Path.{_≡_, refl}
 use mathlib.Core.Bool.{Bool, true, false, cond}
 use mathlib.Core.Logic.{⊎-elim}
-use mathlib.Core.List.{List, [], _∷_, map, List·Memᴰ·head as here, List·Memᴰ·tail as there}
+use mathlib.Core.List.{List, [], _∷_, _++_, map, List·Memᴰ·head as here, List·Memᴰ·tail as there}
 use native.Mathlib.Nat.{eq-or-lt-of-le, le-of-suc-le-suc}
 use native.Mathlib.Omega.{arith}
 use lib.ListN.{length, length-append, length-map}
@@ -21,17 +21,19 @@ use Rattle.specification.specs.Answers.{
   Floor,
   rate,
   cycle,
+  zeroFloor,
   Answer,
   refused,
   disagreeing,
   overweight,
   blocked,
+  noLeast,
   consistent,
   loopNumbers,
   floorRecord,
   portRecords,
   bufferRecords,
-  IsFloor,
+  Blocked,
   Right,
   records,
   leastRoom,
@@ -107,10 +109,12 @@ module _ {t : Table} (formed : WellFormed t) where
     cycle-fits {path} h =
         omega (arith, cycle-record path, cycle-short ports-among h, below-length (portCount t), formed .few-ports)
 
-    floor-fits : (floor : Floor) (a b : ℕ) → IsFloor (graphIn t w c) floor a b → length (floorRecord floor) ≤ 132
+    blocked-fits : (floor : Floor) (block : List ℕ) → Blocked (graphIn t w c) floor block
+        → length (floorRecord floor ++ cycleAnswer block) ≤ leastRoom
     unfolding floorAnswer encode bytes
-    floor-fits (rate p) a b h = omega arith
-    floor-fits (cycle path) a b h = cycle-fits (h .cycle)
+    blocked-fits (rate p) block h = simp length-append (omega (arith, cycle-fits (h .blocks .cycle)))
+    blocked-fits (cycle path) block h = simp length-append (omega (arith, cycle-fits (h .is-limit .cycle), cycle-fits (h .blocks .cycle)))
+    blocked-fits zeroFloor block h = simp length-append (omega (arith, cycle-fits (h .blocks .cycle)))
 
 pub fits-room : {t : Table} {x : Answer} → WellFormed t → Right t x → FitsRoom t x
 fits-room {t} {x} formed right = record { fits = fits x right }
@@ -126,11 +130,8 @@ fits-room {t} {x} formed right = record { fits = fits x right }
       formed .few-ports,
     )
     fits overweight h = omega arith
-    fits (blocked floor block) h = simp length-append (omega (
-      arith,
-      floor-fits formed (h .w) (h .c) floor (h .a) (h .b) (h .is-floor),
-      cycle-fits formed (h .w) (h .c) (h .blocks .cycle),
-    ))
+    fits (blocked floor block) h = blocked-fits formed (h .w) (h .c) floor block (h .is-blocked)
+    fits noLeast h = omega arith
     fits (consistent r) h = simp length-append (omega (
       arith,
       port-records r (portCount t),

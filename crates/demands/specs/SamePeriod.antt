@@ -1,11 +1,10 @@
 -- Ports that are joined have the same a/b.
-use Prim.Native.Nat.{ℕ, _<_}
+use Prim.Native.Nat.{ℕ}
 use mathlib.Core.Path.{_≡_}
-use native.Mathlib.Nat.{le-antisymm, mul-pos}
+use native.Mathlib.Nat.{le-antisymm}
 use Rattle.numbers.specs.Gcd.{coprime-unique}
-use Rattle.specification.specs.Periods.{Period, PortIn, graphIn}
+use Rattle.specification.specs.Periods.{Period, graphIn}
 use Rattle.period.specs.Limits.{period-least}
-use Rattle.table.specs.WellFormed.{WellFormed}
 use Rattle.specification.specs.Table.{Table, IsPort}
 use Rattle.specification.specs.Ratios.{Joined}
 use Rattle.ways.specs.WayLaws.{component-unique, joined-component}
@@ -16,9 +15,9 @@ pub record SamePeriod (r : Timing) (p q : ℕ) : Type 0 where
   pub b : r .b p ≡ r .b q
 
 -- both are the least that serves their component, in lowest terms
-pub same-period : {t : Table} {r : Timing} {p q : ℕ} → WellFormed t → Consistent t r → IsPort t p → IsPort t q → Joined t p q → SamePeriod r p q
-same-period {t} {r} {p} {q} formed right i k j =
-    let equal = le-antisymm (period-least above-zero one (other .serves)) (period-least above-zero other (one .serves)) in
+pub same-period : {t : Table} {r : Timing} {p q : ℕ} → Consistent t r → IsPort t p → IsPort t q → Joined t p q → SamePeriod r p q
+same-period {t} {r} {p} {q} right i k j =
+    let equal = le-antisymm (period-least one (other .serves)) (period-least other (one .serves)) in
     let (a, b) = coprime-unique (one .lowest) (other .lowest) (other .over) equal in
     record { a = a; b = b }
   where
@@ -30,6 +29,3 @@ same-period {t} {r} {p} {q} formed right i k j =
 
     other : Period (graphIn t (r .weight) (r .component p)) (r .a q) (r .b q)
     other = rw same at (right .periods q k)
-
-    above-zero : (x : ℕ) → PortIn t (r .component p) x → 0 < graphIn t (r .weight) (r .component p) .limitDen x
-    above-zero x h = mul-pos (formed .ports x (h .a-port .below) .num .least) (right .weights .weights .proportional .positive x (h .a-port))

@@ -97,10 +97,11 @@ module _ {g : Graph} {a b : ℕ} {over : 0 < b} {S : ℕ → Rational} (meets : 
 pub record PeriodsOver (t : Table) (w : ℕ → ℕ) (c : ℕ) (P : ℕ → Rational) (a b : ℕ) (over : 0 < b) : Type 0 where
   pub is : (p : ℕ) → PortIn t c p → share (w p * a) b over ≈ P p
 
--- they are, and a/b serves
+-- they are, and a/b is above zero and serves
 pub record Served (t : Table) (w : ℕ → ℕ) (c : ℕ) (P : ℕ → Rational) : Type 0 where
   pub a : ℕ
   pub b : ℕ
+  pub above-zero : 0 < a
   pub over : 0 < b
   pub periods : PeriodsOver t w c P a b over
   pub serves : Serves (graphIn t w c) a b
@@ -124,6 +125,7 @@ module _ {t : Table} (formed : WellFormed t) where
   solution-serves {w} {c} s prop i = record {
     a = a;
     b = b;
+    above-zero = omega (arith, s .meets .above-zero c (i .a-port) .holds);
     over = over;
     periods = periods;
     serves = record {

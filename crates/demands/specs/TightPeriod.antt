@@ -134,7 +134,7 @@ module _ {t : Table} {r : Timing} {p : ℕ} (formed : WellFormed t) (right : Con
 
   rate-tight : {q : ℕ} → RateLimit g q (r .a p) (r .b p) → Tight t (r .size) (r .component p) (periodOf r p)
   rate-tight {q} l =
-      let some = formed .ports q (l .a-port .a-port .below) .num .least in
+      let some : 0 < port t q .num = lt-of-mul-lt-mul-right (r .weight q) (omega (arith, l .rated)) in
       rounds-tight 0 (l .a-port) (omega arith)
       (record { holds = omega (arith, l .exact, ap (λ (x : ℕ). port t q .num * x * r .a p) (same-weight (l .a-port .component))) })
       (spaced (l .a-port .a-port) some)

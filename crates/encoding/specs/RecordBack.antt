@@ -1,7 +1,7 @@
 -- A port or link that was written as bytes is read back, whatever stands before and behind its bytes.
 use Prim.Native.Nat.{ℕ, _+_, _*_, _-_, _^_, _≤_, _<_}
 use mathlib.Core.Path.{_≡_, refl, sym, ap, _∙_}
-use mathlib.Core.Bool.{Bool, true, false, cond}
+use mathlib.Core.Bool.{Bool, true, false, cond, not, _||_}
 use mathlib.Core.List.{List, [], _++_}
 use native.Mathlib.Omega.{arith}
 use native.Mathlib.Nat.{add-zero, pos-of-ne-zero, mul-le-mul-right}
@@ -17,6 +17,7 @@ use Rattle.specification.specs.Reading.{
   lengthFaulty,
   partFaulty,
   partsFaulty,
+  rateFaulty,
   endsFaulty,
   amountFaulty,
   delaysFaulty,
@@ -47,6 +48,17 @@ part-good x h = rw (ne-eqb x 0 (λ e. omega (arith, h .least, e)), le-ltb mostPa
 amount-good : (most forward back : ℕ) → forward ≤ most → back ≤ most → amountFaulty most forward back ≡ false
 unfolding amountFaulty
 amount-good most forward back f b = rw (le-ltb most forward f, le-ltb most back b)
+
+-- a rate of 0/0, or of two good parts
+rate-good : (s : List ℕ) (at : ℕ) (p : Port) → PortFits p → numberAt s at 2 ≡ p .num → numberAt s (at + 2) 2 ≡ p .den → rateFaulty s at ≡ false
+unfolding rateFaulty partsFaulty
+rate-good s at p fits num den = rw (num, den) (decided (eqb (p .num) 0) refl)
+  where
+    decided : (none : Bool) → eqb (p .num) 0 ≡ none → cond none (not (eqb (p .den) 0)) (partFaulty (p .num) || partFaulty (p .den)) ≡ false
+    decided true e = rw (fits .unrated (eqb-true (p .num) 0 e))
+    decided false e =
+        let some = pos-of-ne-zero (eqb-false (p .num) 0 e) in
+        rw (part-good (p .num) (record { least = some; most = fits .num-most }), part-good (p .den) (record { least = fits .rated some; most = fits .den-most }))
 
 -- ---- two's complement
 record SignedBack (f b : ℕ) : Type 0 where
@@ -103,14 +115,14 @@ module _ (xs : List ℕ) (kind : ℕ) (body ys : List ℕ) where
 -- ---- a port
 pub port-back : (xs ys : List ℕ) (p : Port) (b : Before) → PortFits p → b .ports < mostPorts → b .«port_may_come» ≡ true
     → recordAt (xs ++ (encodePort p ++ ys)) (length xs) b ≡ PortRecord p (length xs + 8)
-unfolding encodePort bytes kindAt portAt partsFaulty portOf
+unfolding encodePort bytes kindAt portAt portOf
 port-back xs ys p b fits room may =
     let body = bytes 2 (p .num) ++ bytes 2 (p .den) in
     let s = xs ++ (encode 1 body ++ ys) in
-    let num : numberAt s (length xs + 4) 2 ≡ p .num = body-at xs 1 body ys 0 2 (omega arith) ∙ number-bytes 2 (bytes 2 (p .den) ++ ys) (omega (arith, fits .num .most)) in
-    let den : numberAt s (length xs + 4 + 2) 2 ≡ p .den = body-at xs 1 body ys 2 2 (omega arith) ∙ number-in (bytes 2 (p .num)) ys 2 refl (omega (arith, fits .den .most)) in
+    let num : numberAt s (length xs + 4) 2 ≡ p .num = body-at xs 1 body ys 0 2 (omega arith) ∙ number-bytes 2 (bytes 2 (p .den) ++ ys) (omega (arith, fits .num-most)) in
+    let den : numberAt s (length xs + 4 + 2) 2 ≡ p .den = body-at xs 1 body ys 2 2 (omega arith) ∙ number-in (bytes 2 (p .num)) ys 2 refl (omega (arith, fits .den-most)) in
     kind-read xs 1 body ys b (omega arith) (omega arith)
-    ∙ rw (may, lt-leb mostPorts (b .ports) room, num, den, part-good (p .num) (fits .num), part-good (p .den) (fits .den))
+    ∙ rw (may, lt-leb mostPorts (b .ports) room, rate-good s (length xs + 4) p fits num den, num, den)
 
 -- ---- a connection or buffer
 -- the fields that both have stand behind a record's length and kind

@@ -5,7 +5,7 @@ use mathlib.Core.Logic.{inl, inr, ⊎-elim}
 use mathlib.Core.List.{List, [], _∷_, map, List·Memᴰ·head as here, List·Memᴰ·tail as there}
 use native.Mathlib.Omega.{arith}
 use Rattle.numbers.specs.Lists.{_∈_, sum}
-use Rattle.specification.specs.Periods.{Graph, Walk, stop, step, gain, loss, Meets, LeastStarts, Cycle, Serves, RateLimit, CycleLimit, Blocks, Period}
+use Rattle.specification.specs.Periods.{Graph, Walk, stop, step, gain, loss, Meets, LeastStarts, Cycle, Serves, RateLimit, CycleLimit, Blocks, ZeroFloor, BlocksAboveZero, Period, Possible, NoLeast}
 use Rattle.rounds.specs.Walks.{edges-of}
 use Rattle.graph.specs.Numbered.{Numbered}
 
@@ -61,6 +61,12 @@ module _ {g h : Graph} {f : ℕ → ℕ} (n : Numbered g h f) where
 
   -- ---- limits, periods and starts
   module _ {a b : ℕ} where
+    old-serves : Serves h a b → Serves g a b
+    old-serves s = record {
+      rates = λ p i. let m = n .port p i in rw (n .limit-num p m, n .limit-den p m) (s .rates p m);
+      cycles = λ p path w. omega (arith, s .cycles p (map f path) (numbered-walk w), gain-sum w a b, loss-sum w a b);
+    }
+
     numbered-serves : Serves g a b → Serves h a b
     numbered-serves s = record {
       rates = λ p m. rw (← n .limit-num p m, ← n .limit-den p m) (s .rates p (n .port-back p m));
@@ -72,7 +78,7 @@ module _ {g h : Graph} {f : ℕ → ℕ} (n : Numbered g h f) where
     pub numbered-rate : {p : ℕ} → RateLimit g p a b → RateLimit h p a b
     numbered-rate {p} l =
         let m = n .port p (l .a-port) in
-        record { a-port = m; exact = rw (← n .limit-num p m, ← n .limit-den p m) (l .exact) }
+        record { a-port = m; rated = rw (← n .limit-den p m) (l .rated); exact = rw (← n .limit-num p m, ← n .limit-den p m) (l .exact) }
 
     pub numbered-limit : {path : List ℕ} → CycleLimit g path a b → CycleLimit h (map f path) a b
     numbered-limit l =
@@ -122,3 +128,33 @@ module _ {g h : Graph} {f : ℕ → ℕ} (n : Numbered g h f) where
       meets = numbered-meets (s .meets);
       least = λ T m p i. s .least T (old-meets m) p (n .port-back p i);
     }
+
+    numbered-possible : Possible g a b → Possible h a b
+    numbered-possible k = record {
+      above-zero = k .above-zero;
+      over = k .over;
+      rates = λ p m. rw (← n .limit-num p m, ← n .limit-den p m) (k .rates p (n .port-back p m));
+      start = k .start;
+      meets = numbered-meets (k .meets);
+    }
+
+  pub numbered-no-least : NoLeast g → NoLeast h
+  numbered-no-least k = record {
+    some = record { a = k .some .a; b = k .some .b; possible = numbered-possible (k .some .possible) };
+    smaller = λ a b some over s.
+        let less = k .smaller a b some over (old-serves s) in
+        record { x = less .x; y = less .y; possible = numbered-possible (less .possible); less = less .less };
+  }
+
+  -- ---- the floor zero
+  pub numbered-zero : ZeroFloor g → ZeroFloor h
+  numbered-zero z = record { unrated = λ p m. rw (← n .limit-den p m) (z .unrated p (n .port-back p m)) }
+
+  pub numbered-above-zero : {path : List ℕ} → BlocksAboveZero g path → BlocksAboveZero h (map f path)
+  numbered-above-zero k =
+      let w = k .cycle .closed in
+      record {
+        cycle = numbered-cycle (k .cycle);
+        rising = omega (arith, k .rising, events-forward-sum w, events-back-sum w);
+        positive = λ a b some over. omega (arith, k .positive a b some over, gain-sum w a b, loss-sum w a b);
+      }

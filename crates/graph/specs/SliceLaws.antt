@@ -6,13 +6,13 @@ use mathlib.Core.Logic.{⊎-elim}
 use mathlib.Core.Bool.{Bool, true, false}
 use mathlib.Core.List.{List, []}
 use native.Mathlib.Omega.{arith}
-use native.Mathlib.Nat.{mul-le-mul, mul-pos}
+use native.Mathlib.Nat.{mul-le-mul, mul-pos, pos-of-ne-zero}
 use lib.ListN.{length, getD, length-take}
 use lib.Seq.{getD-take}
 use Rattle.numbers.specs.Lists.{_∈_}
 use Rattle.numbers.specs.ListLaws.{lt-or-le, position}
 use Rattle.rounds.specs.Walks.{Among}
-use Rattle.table.specs.WellFormed.{LinkFits}
+use Rattle.table.specs.WellFormed.{PortFits, LinkFits}
 use Rattle.specification.specs.Table.{Table, portCount, linkCount, port, link, IsPort, IsLink, from}
 use Rattle.specification.specs.Ratios.{Component as InComponent, stay, mostWeight, IsComponent}
 use Rattle.demands.specs.ConstraintLaws.{names-component}
@@ -38,6 +38,13 @@ weight-small {t} {weights} h p = ⊎-elim
 -- a part of a link or a port times a weight
 weighed-most : {x w : ℕ} → x ≤ 1000 → w ≤ mostWeight → x * w ≤ mostAmount
 weighed-most h k = omega (arith, mul-le-mul h k)
+
+-- a factor of a product that is above zero, or zero
+factor-above-zero : (x y : ℕ) → 0 < x * y → 0 < x
+factor-above-zero x y h = pos-of-ne-zero (λ e. omega (arith, ap (λ (z : ℕ). z * y) e))
+
+factor-zero : (x y : ℕ) → 0 < y → x * y ≡ 0 → x ≡ 0
+factor-zero x y some e = ⊎-elim (λ (l : 0 < x). absurd (omega (arith, mul-pos l some))) (λ (l : x ≤ 0). omega arith) (lt-or-le 0 x)
 
 -- a link whose owner is a label is a connection from a port of that label
 owned : (b : Bool) (none label c : ℕ) → c < none → ownerOf none label b ≡ c → (b ≡ false) × (label ≡ c)
@@ -190,22 +197,24 @@ module _ {t : Table} {labels weights : List ℕ} (l : Labelled t labels weights)
                 rw (slices-numbered .events-back i m) (weighed-most (fits i m .events-back) (small (from t (getD numbers i 0))));
           }
 
+      port-fits : (p : ℕ) → p ∈ members → PortFits (port t p)
+      port-fits p m = l .well-formed .ports p (port-of m .a-port .below)
+
       small-limits : SmallLimits (graphOf members limits edges)
       small-limits = record {
-        num-some = λ p m.
+        rated = λ p m some.
             let i = port-of m in
-            omega (arith, slices-numbered .limit-num p i, l .well-formed .ports p (i .a-port .below) .den .least);
-        num-most = λ p m.
+            rw (slices-numbered .limit-num p i)
+            (port-fits p m .rated (factor-above-zero (port t p .num) (getD weights p 0) (rw (slices-numbered .limit-den p i) at some)));
+        unrated = λ p m none.
             let i = port-of m in
-            omega (arith, slices-numbered .limit-num p i, l .well-formed .ports p (i .a-port .below) .den .most);
-        den-some = λ p m.
-            let i = port-of m in
-            rw (slices-numbered .limit-den p i)
-            (mul-pos (l .well-formed .ports p (i .a-port .below) .num .least) (l .weighed .are .proportional .positive p (i .a-port)));
+            rw (slices-numbered .limit-num p i)
+            (port-fits p m .unrated
+            (factor-zero (port t p .num) (getD weights p 0) (l .weighed .are .proportional .positive p (i .a-port)) (rw (slices-numbered .limit-den p i) at none)));
+        num-most = λ p m. omega (arith, slices-numbered .limit-num p (port-of m), port-fits p m .den-most);
         den-most = λ p m.
             let i = port-of m in
-            rw (slices-numbered .limit-den p i)
-            (weighed-most (l .well-formed .ports p (i .a-port .below) .num .most) (l .weighed .small p (i .a-port)));
+            rw (slices-numbered .limit-den p i) (weighed-most (port-fits p m .num-most) (l .weighed .small p (i .a-port)));
       }
 
       pub slices-component : Component members limits edges

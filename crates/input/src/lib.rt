@@ -1,5 +1,6 @@
 // Reading an input into a buffer, and whether it was read whole.
 ghost use mathlib.Core.Path.{_≡_};
+ghost use mathlib.Core.Bool.{true};
 ghost use Prim.Native.Nat.{_+_, _^_, _≤_, _<_};
 ghost use lib.ListN.{length};
 ghost use Rattle.input.specs.Input.{readWhole, AfterRead, Onward};
@@ -63,11 +64,13 @@ pub fn fill(fd: i32, buf: &mut [u8]) -> Input
 // No file, which counts as a failed read.
 fn unread() -> Input
     ensures { λ r. ⌜ r .count ≡ 0 ⌝ }
+    ensures { λ r. ⌜ r .failed ≡ true ⌝ }
 {
+    let failed = true;
     Input {
         count: 0,
         more: false,
-        failed: true,
+        failed,
     }
 }
 

@@ -10,6 +10,7 @@ use Rattle.specification.specs.Reading.{
   lengthFaulty,
   partFaulty,
   partsFaulty,
+  rateFaulty,
   endsFaulty,
   amountFaulty,
   delaysFaulty,
@@ -64,6 +65,8 @@ cases =
     -- ports first, the second's ends moved up, the added ones last
     ∷ (two and one with buffer 2 1 ++ connection 0 2 into 96 gives joined (port 1 1 ++ port 2 4 ++ port 1 5 ++ connection 0 1 ++ buffer 2 2 ++ buffer 2 1 ++ connection 0 2))
     ∷ (one and two with [] into 60 gives joined (port 1 5 ++ port 1 1 ++ port 2 4 ++ buffer 0 0 ++ connection 1 2))
+    -- a port 0/0 as it stands
+    ∷ (port 0 0 and one with [] into 32 gives joined (port 0 0 ++ port 1 5 ++ buffer 1 1))
     -- 16: one byte short
     ∷ (two and one with [] into 59 gives refusal 16 0 0)
     -- each input in turn, its place within itself; a fault before 16
@@ -84,6 +87,6 @@ abbrev due : Case → Join
 due c = c .due
 
 cases-hold : map given cases ≡ map due cases
-unfolding _and_with_into_gives_ bytes encode numberAt forward back lengthFaulty partFaulty partsFaulty endsFaulty amountFaulty delaysFaulty ticksAt eventsAt portOf linkOf portAt linkAt connectionAt bufferAt kindAt recordAt readFrom readOn
+unfolding _and_with_into_gives_ bytes encode numberAt forward back lengthFaulty partFaulty partsFaulty rateFaulty endsFaulty amountFaulty delaysFaulty ticksAt eventsAt portOf linkOf portAt linkAt connectionAt bufferAt kindAt recordAt readFrom readOn
     signedWord encodePort linkFields encodeLink encodeTable flatMap bothTables joinedTable joinOf fitted
 cases-hold = refl

@@ -1,5 +1,6 @@
 -- A component as lists of numbers, and its graph.
 use Prim.Native.Nat.{ℕ, _+_, _*_, _/_, _≤_, _<_}
+use mathlib.Core.Path.{_≡_}
 use mathlib.Core.List.{List}
 use lib.ListN.{length, getD}
 use Rattle.numbers.specs.Lists.{_∈_}
@@ -26,9 +27,17 @@ graphOf ports limits edges = record {
 abbrev pub mostAmount : ℕ
 mostAmount = 10_000_000
 
--- the most of a and b: 64 edges' parts
+-- the most of a and b of a period: 64 edges' parts
 abbrev pub mostRate : ℕ
 mostRate = 640_000_000
+
+-- 1 divided by this is just above zero: below every lower limit of a cycle, since D of a simple cycle is at most 64 edges' parts
+abbrev pub justAbove : ℕ
+justAbove = 640_000_001
+
+-- the a/b that are tried: just above zero b passes the most of a period by one, so a and b are bound together
+pub record SmallTried (a b : ℕ) : Type 0 where
+  pub sum : a + b ≤ 2 * mostRate
 
 -- no part of an edge is large
 pub record SmallEdges (g : Graph) : Type 0 where
@@ -37,11 +46,11 @@ pub record SmallEdges (g : Graph) : Type 0 where
   pub events-forward : (k : ℕ) → g .IsEdge k → g .D⁺ k ≤ mostAmount
   pub events-back : (k : ℕ) → g .IsEdge k → g .D⁻ k ≤ mostAmount
 
--- every port has a rate limit above zero, with small parts
+-- every port has a rate limit above zero, with small parts, or no rate and 0 for both
 pub record SmallLimits (g : Graph) : Type 0 where
-  pub num-some : (p : ℕ) → g .IsPort p → 0 < g .limitNum p
+  pub rated : (p : ℕ) → g .IsPort p → 0 < g .limitDen p → 0 < g .limitNum p
+  pub unrated : (p : ℕ) → g .IsPort p → g .limitDen p ≡ 0 → g .limitNum p ≡ 0
   pub num-most : (p : ℕ) → g .IsPort p → g .limitNum p ≤ mostAmount
-  pub den-some : (p : ℕ) → g .IsPort p → 0 < g .limitDen p
   pub den-most : (p : ℕ) → g .IsPort p → g .limitDen p ≤ mostAmount
 
 -- what the lists of a component satisfy: up to 64 ports, their numbers below 64, and the edges between them

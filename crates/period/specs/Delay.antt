@@ -2,7 +2,7 @@
 use Prim.Native.Nat.{ℕ, _+_, _*_, _≤_}
 use Rattle.specification.specs.declared.Ticks.{Ticks}
 use Rattle.specification.specs.declared.Events.{Events}
-use Rattle.period.specs.Component.{mostAmount, mostRate}
+use Rattle.period.specs.Component.{mostAmount, SmallTried}
 
 -- the delay at the period a/b, in ticks over b: one event is a/b ticks
 abbrev pub delayAt : Ticks → Events → (a b : ℕ) → Ticks
@@ -14,5 +14,4 @@ pub record SmallDelay (ticks : Ticks) (events : Events) (a b : ℕ) : Type 0 whe
   pub ticks-back : ticks .1 ≤ mostAmount
   pub events-forward : events .0 ≤ mostAmount
   pub events-back : events .1 ≤ mostAmount
-  pub small-a : a ≤ mostRate
-  pub small-b : b ≤ mostRate
+  pub small : SmallTried a b

@@ -7,6 +7,7 @@ pub mod Delay
 pub mod Prices
 pub mod Alike
 pub mod PricesLaws
+pub mod JustAbove
 pub mod LimitOf
 pub mod Greatest
 pub mod Sums

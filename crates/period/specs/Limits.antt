@@ -7,7 +7,7 @@ use native.Mathlib.Omega.{arith}
 use native.Mathlib.Nat.{mul-le-mul, mul-le-mul-left, mul-le-mul-right, mul-sub, le-of-mul-le-mul-right, lt-of-mul-lt-mul-right, mul-lt-mul-of-pos-right, eq-of-mul-eq-mul-right}
 use Rattle.numbers.specs.Lists.{sum}
 use Rattle.numbers.specs.ListLaws.{sum-linear}
-use Rattle.specification.specs.Periods.{Graph, gain, loss, Meets, Cycle, Serves, RateLimit, CycleLimit, Blocks, Period}
+use Rattle.specification.specs.Periods.{Graph, gain, loss, Meets, Cycle, Serves, RateLimit, CycleLimit, Blocks, BlocksAboveZero, Period}
 use Rattle.rounds.specs.Walks.{meets-cycles}
 
 -- the greater times the greater
@@ -95,12 +95,12 @@ module _ {g : Graph} {a b a′ b′ : ℕ} where
     mul-le-mul-right (a′ * b) (l .falling),
   )) (omega (arith, l .falling))
 
-  pub rate-below : {p : ℕ} → 0 < g .limitDen p → RateLimit g p a b → Serves g a′ b′ → a * b′ ≤ a′ * b
-  rate-below {p} some l s = le-of-mul-le-mul-right {k = g .limitDen p} (omega (
+  pub rate-below : {p : ℕ} → RateLimit g p a b → Serves g a′ b′ → a * b′ ≤ a′ * b
+  rate-below {p} l s = le-of-mul-le-mul-right {k = g .limitDen p} (omega (
     arith,
     ap (λ (x : ℕ). x * b′) (l .exact),
     mul-le-mul-right b (s .rates p (l .a-port)),
-  )) some
+  )) (l .rated)
 
   -- a limit is one for each fraction of its value
   module _ (same : a * b′ ≡ a′ * b) (some : 0 < b) where
@@ -125,10 +125,14 @@ module _ {g : Graph} {a b : ℕ} where
     rising g path a b (k .positive) (k .rising) a′ b′ some (low a′ b′ s some),
   )
 
+  -- a cycle that is positive at every period above zero leaves none
+  pub blocked-above-zero : {path : List ℕ} → BlocksAboveZero g path → 0 < a → 0 < b → ¬ Serves g a b
+  blocked-above-zero {path} k some over s = omega (arith, s .cycles (k .cycle .at) path (k .cycle .closed), k .positive a b some over)
+
   -- the period is the least that serves
-  pub period-least : {a′ b′ : ℕ} → ((p : ℕ) → g .IsPort p → 0 < g .limitDen p) → Period g a b → Serves g a′ b′ → a * b′ ≤ a′ * b
-  period-least some t s = ⊎-elim
-      (λ (l : (p : ℕ) × RateLimit g p a b). rate-below (some (l .0) (l .1 .a-port)) (l .1) s)
+  pub period-least : {a′ b′ : ℕ} → Period g a b → Serves g a′ b′ → a * b′ ≤ a′ * b
+  period-least t s = ⊎-elim
+      (λ (l : (p : ℕ) × RateLimit g p a b). rate-below (l .1) s)
       (λ (l : (path : List ℕ) × CycleLimit g path a b). limit-below (l .1) s)
       (t .limit)
 

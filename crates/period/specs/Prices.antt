@@ -3,7 +3,7 @@ use Prim.Native.Nat.{ℕ, zero, suc, _+_, _*_, _/_, _≤_}
 use mathlib.Core.Path.{_≡_}
 use mathlib.Core.List.{List, [], _∷_, _++_}
 use lib.ListN.{length, getD, take}
-use Rattle.period.specs.Component.{graphOf, SmallEdges, mostRate}
+use Rattle.period.specs.Component.{graphOf, SmallEdges, SmallTried}
 
 -- from, to, gain and loss of the first k edges at a/b
 unfoldable pub pricesTo : (edges : List ℕ) (a b k : ℕ) → List ℕ
@@ -24,8 +24,7 @@ pricesOf edges a b = pricesTo edges a b (length edges / 6)
 pub record Pricing (edges : List ℕ) (a b : ℕ) (costs : List ℕ) : Type 0 where
   pub small : SmallEdges (graphOf [] [] edges)
   pub room : 4 * (length edges / 6) ≤ length costs
-  pub small-a : a ≤ mostRate
-  pub small-b : b ≤ mostRate
+  pub small-period : SmallTried a b
 
 -- the prices stand at the front of the buffer
 pub record PricesMade (edges : List ℕ) (a b : ℕ) (costs costs′ : List ℕ) : Type 0 where

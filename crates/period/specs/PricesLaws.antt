@@ -1,31 +1,30 @@
--- Laws of prices: they are the edges of the component at a/b, they are small, and what holds of their graph holds of the component's.
+-- Laws of prices: they are the edges of the component at a/b, they are small, what holds of their graph holds of the component's, and
+-- rounds over them stop where a/b serves.
 use Prim.Native.Nat.{ℕ, zero, suc, _+_, _*_, _/_, _≤_, _<_}
 use mathlib.Core.Path.{_≡_, refl, ap, _∙_}
 use mathlib.Core.Logic.{⊎-elim}
 use mathlib.Core.List.{List, [], _∷_}
 use native.Mathlib.Omega.{arith}
-use native.Mathlib.Nat.{mul-le-mul}
+use native.Mathlib.Nat.{mul-le-mul-right}
 use lib.ListN.{length, getD, length-append, List·getD-append}
 use lib.Seq.{getD-append-add}
 use Rattle.numbers.specs.Lists.{_∈_}
 use Rattle.numbers.specs.ListLaws.{lt-or-le}
-use Rattle.specification.specs.Periods.{Graph, gain, loss, Cycle, LeastStarts}
+use Rattle.specification.specs.Periods.{Graph, gain, loss, Cycle, LeastStarts, Serves}
 use Rattle.rounds.specs.Walks.{edges-of, PositiveCycle}
-use Rattle.rounds.specs.Rounds.{settled}
-use Rattle.period.specs.Component.{graphOf, Component, mostAmount, mostRate}
-use Rattle.rounds.specs.Costs.{count, gainOf, lossOf, Priced, priced}
+use Rattle.rounds.specs.Rounds.{Rows, settled}
+use Rattle.rounds.specs.Trails.{positive-cycle}
+use Rattle.period.specs.Component.{graphOf, Component, mostAmount, SmallTried}
+use Rattle.rounds.specs.Costs.{count, toOf, gainOf, lossOf, mostCost, Priced, priced}
 use Rattle.rounds.specs.Starts.{starts, startOf}
 use Rattle.rounds.specs.StartsLaws.{starts-rows}
 use Rattle.rounds.specs.Back.{Enclosed}
 use Rattle.period.specs.Prices.{pricesTo, pricesOf}
 use Rattle.period.specs.Alike.{SameEdge, Alike, alike-cycle, alike-rows}
 
--- the most of a part of an edge times a part of a/b
-abbrev pub mostProduct : ℕ
-mostProduct = 6_400_000_000_000_000
-
-pub product-most : {x y : ℕ} → x ≤ mostAmount → y ≤ mostRate → x * y ≤ mostProduct
-product-most h k = omega (arith, mul-le-mul h k)
+-- what an edge gains or loses at a/b
+pub cost-most : {e d a b : ℕ} → e ≤ mostAmount → d ≤ mostAmount → SmallTried a b → e * b + d * a ≤ mostCost
+cost-most {a = a} {b = b} h k s = omega (arith, s .sum, mul-le-mul-right b h, mul-le-mul-right a k)
 
 module _ (edges : List ℕ) (a b : ℕ) where
   -- from, to, gain and loss of edge k
@@ -95,19 +94,25 @@ module _ (ports limits edges : List ℕ) (a b : ℕ) where
   prices-cycle p = alike-cycle prices-alike p
 
 module _ {ports limits edges : List ℕ} (component : Component ports limits edges) where
+  -- every edge comes to a port below 64
+  prices-to : (a b k : ℕ) → k < count (pricesOf edges a b) → toOf (pricesOf edges a b) k < 64
+  prices-to a b k l =
+      let alike = prices-alike ports limits edges a b in
+      rw (alike .same k l .to) (component .low-ports _ (component .among .to-in k (alike .edge k l)))
+
   module _ {a b : ℕ} where
-    pub prices-small : a ≤ mostRate → b ≤ mostRate → Priced (pricesOf edges a b)
-    prices-small h j =
+    pub prices-small : SmallTried a b → Priced (pricesOf edges a b)
+    prices-small h =
         let alike = prices-alike ports limits edges a b in
         record {
           from-in = λ k l. rw (alike .same k l .from) (component .low-ports _ (component .among .from-in k (alike .edge k l)));
-          to-in = λ k l. rw (alike .same k l .to) (component .low-ports _ (component .among .to-in k (alike .edge k l)));
+          to-in = prices-to a b;
           gains = λ k l.
               let m = alike .edge k l in
-              omega (arith, alike .same k l .gain, product-most (component .small-edges .ticks-forward k m) j, product-most (component .small-edges .events-forward k m) h);
+              omega (arith, alike .same k l .gain, cost-most (component .small-edges .ticks-forward k m) (component .small-edges .events-forward k m) h);
           losses = λ k l.
               let m = alike .edge k l in
-              omega (arith, alike .same k l .loss, product-most (component .small-edges .ticks-back k m) j, product-most (component .small-edges .events-back k m) h);
+              omega (arith, alike .same k l .loss, cost-most (component .small-edges .ticks-back k m) (component .small-edges .events-back k m) h);
         }
 
   module _ (a b : ℕ) where
@@ -123,12 +128,22 @@ module _ {ports limits edges : List ℕ} (component : Component ports limits edg
           };
         }
 
+    rows-of : (last : ℕ) → Rows (graphOf ports limits edges) (gain (graphOf ports limits edges) a b) (loss (graphOf ports limits edges) a b) last (startOf (pricesOf edges a b))
+    rows-of last = alike-rows (prices-alike ports limits edges a b) (starts-rows (pricesOf edges a b) (prices-to a b) last)
+
     -- starts that a round does not change are the least
-    pub prices-settled : (r : ℕ) → Priced (pricesOf edges a b) → starts (pricesOf edges a b) (suc r) ≡ starts (pricesOf edges a b) r
+    pub prices-settled : (r : ℕ) → starts (pricesOf edges a b) (suc r) ≡ starts (pricesOf edges a b) r
         → LeastStarts (graphOf ports limits edges) a b (startOf (pricesOf edges a b) r)
-    prices-settled r p e =
-        settled
-        (alike-rows (prices-alike ports limits edges a b) (starts-rows (pricesOf edges a b) p (suc r)))
-        {r = r}
-        (omega arith)
-        (λ j. ap (λ (s : List ℕ). getD s j 0) e)
+    prices-settled r e = settled (rows-of (suc r)) {r = r} (omega arith) (λ j. ap (λ (s : List ℕ). getD s j 0) e)
+
+    -- where a/b serves, no round behind as many as there are ports changes a start: it would have gone round a positive cycle
+    pub serves-starts : Serves (graphOf ports limits edges) a b → LeastStarts (graphOf ports limits edges) a b (startOf (pricesOf edges a b) (length ports))
+    serves-starts s =
+        let n = length ports in
+        let cs = pricesOf edges a b in
+        settled (rows-of (suc n)) {r = n} (omega arith) (λ j. ⊎-elim
+        (λ (grows : startOf cs n j < startOf cs (suc n) j).
+        let (c, k) = positive-cycle (rows-of (suc n)) (component .among) {r = n} {j = j} (omega arith) (omega arith) grows in
+        absurd (omega (arith, k .positive, s .cycles (k .cycle .at) c (k .cycle .closed))))
+        (λ (h : startOf cs (suc n) j ≤ startOf cs n j). omega (arith, rows-of (suc n) .next n (omega arith) .grows j))
+        (lt-or-le (startOf cs n j) (startOf cs (suc n) j)))

@@ -6,7 +6,7 @@ use lib.ListN.{length}
 use Rattle.rounds.specs.Costs.{Priced}
 use Rattle.rounds.specs.Starts.{Stopped}
 use Rattle.rounds.specs.Back.{Enclosed, FoundCycle}
-use Rattle.period.specs.Component.{graphOf, SmallEdges, mostRate}
+use Rattle.period.specs.Component.{graphOf, SmallEdges, SmallTried}
 use Rattle.period.specs.Prices.{pricesOf}
 use Rattle.period.specs.declared.search.Tried.{Tried}
 use Rattle.period.specs.declared.search.Tried.the-variants.{Settled, Gaining}
@@ -15,8 +15,7 @@ use Rattle.period.specs.declared.search.Tried.the-variants.{Settled, Gai
 pub record Trying (edges : List ℕ) (m a b n : ℕ) (work steps : List ℕ) : Type 0 where
   pub counted : length edges / 6 ≡ m
   pub small-edges : SmallEdges (graphOf [] [] edges)
-  pub small-a : a ≤ mostRate
-  pub small-b : b ≤ mostRate
+  pub small-period : SmallTried a b
   pub priced : Priced (pricesOf edges a b)
   pub enclosed : Enclosed (pricesOf edges a b) n
   pub some : 0 < n

@@ -7,11 +7,12 @@ ghost use Rattle.period.specs.Component.{Component};
 ghost use Rattle.period.specs.Edges.{limitsOf, edgesOf, Readable};
 ghost use Rattle.period.specs.Greatest.{GreatestLimit};
 ghost use Rattle.period.specs.Prices.{pricesOf};
-ghost use Rattle.period.specs.Search.{cycleOf, WithinSteps, SearchResult};
+ghost use Rattle.period.specs.Search.{cycleOf, WithinSteps, firstTried, settledEnd, SearchResult};
 ghost use Rattle.period.specs.Sums.{Summing, SumsOf};
 ghost use Rattle.period.specs.Try.{Trying, TryResult, SameLengths};
 use crate::cycle;
 use crate::cycle::Sums;
+use crate::limit::Floor;
 use crate::limit::Limit;
 use crate::price;
 use fraction::Fraction;
@@ -26,23 +27,50 @@ pub struct Cycle {
     pub part: Part,
 }
 
-// The limit that a/b is: the rate limit of a port, or the lower limit of a cycle, which stands beside it.
-pub enum Floor {
-    Rate(u64),
-    Lower,
+// How a search ends: with the least period, with periods but no least, or with a cycle that blocks every period.
+pub enum SearchEnd {
+    Least(Fraction),
+    NoLeast,
+    Blocked,
 }
 
 pub struct Search {
-    // Whether a period was found.
-    pub settled: bool,
-    // The period's a/b, or the floor's, in lowest terms.
-    pub period: Fraction,
+    pub end: SearchEnd,
     pub floor: Floor,
+    // The cycle whose lower limit the floor is, where it is one.
     pub limit: Cycle,
-    // The cycle that blocks, where no period was found.
+    // The cycle that blocks, where one does.
     pub block: Cycle,
     // The rounds run at the last a/b.
     pub rounds: usize,
+}
+
+// Just above zero: it stands for the periods there, and is in no answer.
+const JUST_ABOVE_ZERO: Fraction = Fraction {
+    num: 1,
+    den: 640_000_001,
+};
+
+// The first a/b that is tried: the floor's value, or just above zero.
+fn first_tried(greatest: Limit) -> Fraction
+    ensures { λ r. ⌜ r ≡ firstTried greatest ⌝ }
+{
+    let value = greatest.value;
+    if value.num == 0 {
+        return JUST_ABOVE_ZERO;
+    }
+    value
+}
+
+// How a search ends that settles at a/b.
+fn settled_end(floor: Floor, period: Fraction) -> SearchEnd
+    ensures { λ r. ⌜ r ≡ settledEnd floor period ⌝ }
+{
+    match floor {
+        Floor::Rate(_) => SearchEnd::Least(period),
+        Floor::Lower => SearchEnd::Least(period),
+        Floor::Zero => SearchEnd::NoLeast,
+    }
 }
 
 // What one a/b ends with: the rounds that changed something, or a part of the steps that is a cycle positive there.
@@ -94,7 +122,8 @@ fn cycle_sums(links: &[u32], weights: &[u64; 64], numbers: &[u64], c: Cycle) -> 
     cycle::sums_of(links, weights, numbers, &steps[first..last])
 }
 
-// The search begins at the greatest of the ports' rate limits. Where it settles, the starts are row `rounds` - 1 of work.
+// The search begins at the greatest of the ports' rate limits, or just above zero. Where it settles, the starts are row `rounds` - 1 of
+// work.
 pub fn least_period(
     ports: &[u32],
     links: &[u32],
@@ -116,16 +145,15 @@ pub fn least_period(
         steps: [0u64; 64],
         part: Part { first: 0, last: 0 },
     };
-    let mut period = greatest.period;
-    let mut floor = Floor::Rate(greatest.port);
+    let mut period = first_tried(greatest);
+    let mut floor = greatest.floor;
     let mut limit = none;
     loop {
         let mut steps = [0u64; 64];
         match try_at(links, weights, numbers, period, n, work, &mut steps) {
             Tried::Settled(r) => {
                 return Search {
-                    settled: true,
-                    period,
+                    end: settled_end(floor, period),
                     floor,
                     limit,
                     block: none,
@@ -137,8 +165,7 @@ pub fn least_period(
                 let sums = cycle_sums(links, weights, numbers, found);
                 if sums.events.1 <= sums.events.0 {
                     return Search {
-                        settled: false,
-                        period,
+                        end: SearchEnd::Blocked,
                         floor,
                         limit,
                         block: found,

@@ -1,4 +1,4 @@
--- Models A, F and I of document 01 print as it says, with the place of change request F-1, and so does its fault.
+-- Models A, F and I of document 01 print as it says, with the place of change request F-1, and so do its fault, the floor zero and number 17.
 use Prim.Native.Nat.{ℕ}
 use mathlib.Core.Path.{_≡_, refl}
 use mathlib.Core.Bool.{true, false}
@@ -9,7 +9,7 @@ use Rattle.numbers.specs.Gcd.{gcd}
 use Rattle.fraction.specs.Lowest.{lowestTerms}
 use Rattle.specification.specs.Table.{Table, noPort, noLink}
 use Rattle.specification.specs.declared.Link.{Link}
-use Rattle.specification.specs.Answers.{Timing, cycle, refused, disagreeing, blocked, consistent}
+use Rattle.specification.specs.Answers.{Timing, cycle, zeroFloor, refused, disagreeing, blocked, noLeast, consistent}
 use Rattle.text.specs.Lines.{decimal, decimalIn, fraction, signWord, field, fractionField, placeText, answerLine, portText, portLine, bufferLine, stepText, connectionText, itemsLine}
 use Rattle.report.specs.AnswerText.{stepsText, connectionsText, portsText, buffersText, textOf}
 
@@ -82,3 +82,21 @@ lineFault = 97 ∷ 110 ∷ 115 ∷ 119 ∷ 101 ∷ 114 ∷ 32 ∷ 49 ∷ 49 ∷ 
 pub fault : (t : Table) → textOf 36 t (refused 11) ≡ lineFault
 unfolding answerLine placeText field decimal decimalIn
 fault t = refl
+
+-- ---- change request F-3: "answer 15 at 0", "floor zero", "block 0"
+abbrev linesZero : List ℕ
+linesZero =
+    97 ∷ 110 ∷ 115 ∷ 119 ∷ 101 ∷ 114 ∷ 32 ∷ 49 ∷ 53 ∷ 32 ∷ 97 ∷ 116 ∷ 32 ∷ 48 ∷ 10 ∷
+    102 ∷ 108 ∷ 111 ∷ 111 ∷ 114 ∷ 32 ∷ 122 ∷ 101 ∷ 114 ∷ 111 ∷ 10 ∷ 98 ∷ 108 ∷ 111 ∷ 99 ∷ 107 ∷ 32 ∷ 48 ∷ 10 ∷ []
+
+pub floor-zero : (t : Table) → textOf 0 t (blocked zeroFloor (0 ∷ [])) ≡ linesZero
+unfolding connectionsText answerLine placeText connectionText itemsLine field decimal decimalIn
+floor-zero t = refl
+
+-- "answer 17 at 0"
+abbrev lineNoLeast : List ℕ
+lineNoLeast = 97 ∷ 110 ∷ 115 ∷ 119 ∷ 101 ∷ 114 ∷ 32 ∷ 49 ∷ 55 ∷ 32 ∷ 97 ∷ 116 ∷ 32 ∷ 48 ∷ 10 ∷ []
+
+pub no-least : (t : Table) → textOf 0 t noLeast ≡ lineNoLeast
+unfolding answerLine placeText field decimal decimalIn
+no-least t = refl

@@ -4,8 +4,8 @@ use mathlib.Core.Bool.{cond}
 use mathlib.Core.List.{List, [], _∷_, _++_}
 use Rattle.specification.specs.Table.{Table, portCount, linkCount, link}
 use Rattle.specification.specs.Ratios.{Step}
-use Rattle.specification.specs.Answers.{Timing, Floor, rate, cycle, Answer, refused, disagreeing, overweight, blocked, consistent, number}
-use Rattle.text.specs.Lines.{loopWord, floorCycleWord, blockWord, answerLine, portLine, bufferLine, stepText, connectionText, itemsLine, floorPortLine}
+use Rattle.specification.specs.Answers.{Timing, Floor, rate, cycle, zeroFloor, Answer, refused, disagreeing, overweight, blocked, noLeast, consistent, number}
+use Rattle.text.specs.Lines.{loopWord, floorCycleWord, blockWord, answerLine, portLine, bufferLine, stepText, connectionText, itemsLine, floorPortLine, zeroFloorLine}
 
 -- a sign and a number for each step of a loop; minus is against
 unfoldable pub stepsText : List Step → List ℕ
@@ -20,6 +20,7 @@ connectionsText (k ∷ path) = connectionText k ++ connectionsText path
 abbrev pub floorText : Floor → List ℕ
 floorText (rate port) = floorPortLine port
 floorText (cycle path) = itemsLine floorCycleWord (connectionsText path)
+floorText zeroFloor = zeroFloorLine
 
 -- a line for each of the first n ports, in order
 unfoldable pub portsText : Timing → ℕ → List ℕ
@@ -37,6 +38,7 @@ linesOf t (refused n) = []
 linesOf t (disagreeing loop) = itemsLine loopWord (stepsText loop)
 linesOf t overweight = []
 linesOf t (blocked floor block) = floorText floor ++ itemsLine blockWord (connectionsText block)
+linesOf t noLeast = []
 linesOf t (consistent r) = portsText r (portCount t) ++ buffersText t r (linkCount t)
 
 -- the whole text

@@ -2,7 +2,7 @@
 use Prim.Native.Nat.{ℕ, zero, suc, _+_, _^_, _≤_, _<_}
 use mathlib.Core.Path.{_≡_, refl}
 use mathlib.Core.Bool.{Bool, true, false, cond}
-use mathlib.Core.List.{List, [], map, List·Memᴰ·head as here, List·Memᴰ·tail as there}
+use mathlib.Core.List.{List, [], _++_, map, List·Memᴰ·head as here, List·Memᴰ·tail as there}
 use native.Mathlib.Numerals.{add-one}
 use native.Mathlib.Omega.{arith}
 use lib.ListN.{length, take, length-append}
@@ -20,11 +20,13 @@ use Rattle.specification.specs.Answers.{
   Floor,
   rate,
   cycle,
+  zeroFloor,
   Answer,
   refused,
   disagreeing,
   overweight,
   blocked,
+  noLeast,
   consistent,
   number,
   loopNumbers,
@@ -32,7 +34,7 @@ use Rattle.specification.specs.Answers.{
   portRecords,
   bufferRecords,
   records,
-  IsFloor,
+  Blocked,
   Right,
   leastRoom,
   AnswerOf,
@@ -42,11 +44,11 @@ use Rattle.demands.specs.AnswerCases.{AnswerCase, short, faulty, formed as righ
 use Rattle.demands.specs.Room.{fits-room}
 use Rattle.specification.specs.declared.Outcome.{Outcome}
 use Rattle.specification.specs.Analysed.{FieldsFit, Fits, Analysed}
-use Rattle.text.specs.Lines.{bufferLine}
+use Rattle.text.specs.Lines.{blockWord, bufferLine, itemsLine}
 use Rattle.text.specs.Printed.{cycleWord, printed}
 use Rattle.text.specs.PrintedLaws.{Prints, prints-none, _⨾_, prints-all}
-use Rattle.report.specs.AnswerText.{floorText, portsText, buffersText, linesOf, textOf}
-use Rattle.report.specs.RecordText.{PortFields, BufferFields, SmallNumbers, prints-port, prints-buffer, prints-floor, prints-loop, prints-cycle}
+use Rattle.report.specs.AnswerText.{connectionsText, floorText, portsText, buffersText, linesOf, textOf}
+use Rattle.report.specs.RecordText.{PortFields, BufferFields, SmallNumbers, prints-port, prints-buffer, prints-rate-floor, prints-zero-floor, prints-loop, prints-cycle}
 
 -- the records print, however many they are
 pub record PrintsAs (s : List ℕ) (first : ℕ) (lines : List ℕ) : Type 0 where
@@ -115,17 +117,26 @@ short-record kind body h = omega (arith, encode-length kind body)
 
 -- ---- every right answer
 module _ {t : Table} (formed : WellFormed t) where
-  prints-floor-record : (floor : Floor) (w : ℕ → ℕ) (c a b : ℕ)
-      → IsFloor (graphIn t w c) floor a b
-      → length (floorRecord floor) ≤ leastRoom
-      → Prints (floorRecord floor) 0 1 (floorText floor)
-  unfolding cycleWord cycleAnswer
-  prints-floor-record (rate p) w c a b h fits = prints-floor p (omega (arith, h .a-port .a-port .below, formed .few-ports)) 0
-  prints-floor-record (cycle path) w c a b h fits =
-      prints-cycle path (cycle-numbers formed w c (h .cycle)) (short-record 19 (words path) fits) 0
+  module _ (w : ℕ → ℕ) (c : ℕ) where
+    prints-cycle-in : (path : List ℕ) → Cycle (graphIn t w c) path → length (cycleAnswer path) ≤ leastRoom
+        → (place : ℕ) → Prints (cycleAnswer path) place 1 (itemsLine (cycleWord place) (connectionsText path))
+    unfolding cycleAnswer
+    prints-cycle-in path h fits = prints-cycle path (cycle-numbers formed w c h) (short-record 19 (words path) fits)
+
+    -- a floor, and the cycle that blocks above it
+    prints-blocked : (floor : Floor) (block : List ℕ) → Blocked (graphIn t w c) floor block
+        → length (floorRecord floor) + length (cycleAnswer block) ≤ leastRoom
+        → Prints (floorRecord floor ++ cycleAnswer block) 0 2 (floorText floor ++ itemsLine blockWord (connectionsText block))
+    unfolding cycleWord
+    prints-blocked (rate p) block h fits =
+        let port = h .is-limit .a-port .a-port .below in
+        prints-rate-floor p (omega (arith, port, formed .few-ports)) 0 ⨾ prints-cycle-in block (h .blocks .cycle) (omega arith) 1
+    prints-blocked (cycle path) block h fits =
+        prints-cycle-in path (h .is-limit .cycle) (omega arith) 0 ⨾ prints-cycle-in block (h .blocks .cycle) (omega arith) 1
+    prints-blocked zeroFloor block h fits = prints-zero-floor 0 ⨾ prints-cycle-in block (h .blocks .cycle) (omega arith) 1
 
   prints-answer : (x : Answer) → Right t x → Fits t x → PrintsAs (records t x) 0 (linesOf t x)
-  unfolding cycleWord loopAnswer cycleAnswer
+  unfolding loopAnswer
   prints-answer (refused n) right fits = record { many = 0; prints = prints-none }
   prints-answer (disagreeing loop) right fits =
       let room = fits-room {x = disagreeing loop} formed right .fits in
@@ -134,9 +145,8 @@ module _ {t : Table} (formed : WellFormed t) where
   prints-answer (blocked floor block) right fits =
       let room = fits-room {x = blocked floor block} formed right .fits in
       let both = length-append (floorRecord floor) (cycleAnswer block) in
-      let first = prints-floor-record floor (right .w) (right .c) (right .a) (right .b) (right .is-floor) (omega arith) in
-      let small = cycle-numbers formed (right .w) (right .c) (right .blocks .cycle) in
-      record { many = 2; prints = first ⨾ prints-cycle block small (short-record 19 (words block) (omega arith)) 1 }
+      record { many = 2; prints = prints-blocked (right .w) (right .c) floor block (right .is-blocked) (omega arith) }
+  prints-answer noLeast right fits = record { many = 0; prints = prints-none }
   prints-answer (consistent r) right fits =
       let ports = prints-ports r (portCount t) (port-fields fits) in
       let buffers = prints-buffers t r (0 + portCount t) (linkCount t) (buffer-fields formed fits) in

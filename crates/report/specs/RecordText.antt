@@ -6,15 +6,15 @@ use mathlib.Core.List.{List, [], _∷_, _++_, map, List·Memᴰ·head as here, L
 use native.Mathlib.Omega.{arith}
 use lib.Dec.{eqb}
 use lib.ListN.{length}
-use borrow.Author.Tests.{lt-ltb, le-leb}
+use borrow.Author.Tests.{lt-ltb, le-leb, ne-eqb}
 use Rattle.specification.specs.Bytes.{encode, portAnswer, bufferAnswer, loopAnswer, cycleAnswer, floorAnswer, numberAt, bytes, words}
 use Rattle.records.specs.Lengths.{words-length}
 use Rattle.records.specs.NumberLaws.{number-bytes, number-in, length-field, kind-field, body-field}
 use Rattle.numbers.specs.Lists.{_∈_}
 use Rattle.specification.specs.Ratios.{Step}
-use Rattle.specification.specs.Answers.{loopNumbers}
+use Rattle.specification.specs.Answers.{loopNumbers, zeroFloorPort}
 use Rattle.demands.specs.Room.{loop-numbers}
-use Rattle.text.specs.Lines.{loopWord, portLine, bufferLine, stepText, connectionText, itemsLine, floorPortLine}
+use Rattle.text.specs.Lines.{loopWord, portLine, bufferLine, stepText, connectionText, itemsLine, floorPortLine, zeroFloorLine, floorLine}
 use Rattle.text.specs.Printed.{cycleWord, hasLine, itemsText, portAt, bufferAt, stepAt, connectionAt, loopAt, cycleAt, floorAt, hasPeriod, recordLine}
 use Rattle.text.specs.PrintedLaws.{steps-behind, connections-behind, Prints, prints-record}
 use Rattle.report.specs.AnswerText.{stepsText, connectionsText}
@@ -119,14 +119,14 @@ module _ {number size : ℕ} (f : BufferFields number size) where
     is = λ post. buffer-is post place;
   })
 
--- ---- a port that is the floor
+-- ---- a floor, by the port in its record
 module _ (port : ℕ) (fits : port < 256 ^ 2) where
-  floor-is : (post : List ℕ) (place : ℕ) → recordLine (encode 20 (bytes 2 port) ++ post) 0 place ≡ floorPortLine port
+  floor-is : (post : List ℕ) (place : ℕ) → recordLine (encode 20 (bytes 2 port) ++ post) 0 place ≡ floorLine port
   unfolding recordLine floorAt
   floor-is post place =
       rw (kind-field 20 (bytes 2 port) post (omega arith), body-field 20 (bytes 2 port) post 0 2, number-bytes 2 post fits)
 
-  pub prints-floor : (place : ℕ) → Prints (floorAnswer port) place 1 (floorPortLine port)
+  prints-floor : (place : ℕ) → Prints (floorAnswer port) place 1 (floorLine port)
   unfolding floorAnswer hasLine bytes
   prints-floor place = prints-record (record {
     known = omega arith;
@@ -135,6 +135,15 @@ module _ (port : ℕ) (fits : port < 256 ^ 2) where
     period = no-period 20 (bytes 2 port) (omega arith) refl;
     is = λ post. floor-is post place;
   })
+
+-- the rate limit of a port, and zero
+pub prints-rate-floor : (port : ℕ) → port < zeroFloorPort → (place : ℕ) → Prints (floorAnswer port) place 1 (floorPortLine port)
+unfolding floorLine
+prints-rate-floor port l place = rw (ne-eqb port zeroFloorPort (λ e. omega arith)) at (prints-floor port (omega arith) place)
+
+pub prints-zero-floor : (place : ℕ) → Prints (floorAnswer zeroFloorPort) place 1 zeroFloorLine
+unfolding floorLine
+prints-zero-floor place = prints-floor zeroFloorPort (omega arith) place
 
 -- ---- a loop
 joined : {xs xs′ ys ys′ : List ℕ} → xs ≡ xs′ → ys ≡ ys′ → xs ++ ys ≡ xs′ ++ ys′

@@ -6,7 +6,7 @@ use lib.ListN.{length}
 use Rattle.numbers.specs.Lists.{_∈_}
 use Rattle.period.specs.Search.{cycleOf, WithinSteps}
 use Rattle.period.specs.declared.search.Cycle.{Cycle}
-use Rattle.period.specs.declared.search.Floor.the-variants.{Lower}
+use Rattle.period.specs.declared.limit.Floor.the-variants.{Lower}
 use Rattle.period.specs.declared.search.Search.{Search}
 
 -- the steps of a cycle are places of the numbers

@@ -3,14 +3,14 @@ use Prim.Native.Nat.{ℕ, _+_, _*_, _-_, _^_, _≤_, _<_, max}
 use mathlib.Core.Path.{_≡_}
 use mathlib.Core.Logic.{⊎-elim}
 use mathlib.Core.List.{List}
-use native.Mathlib.Nat.{mul-pos, mul-le-mul-left, lt-div-mul-add, div-lt-iff-lt-mul}
+use native.Mathlib.Nat.{mul-pos, mul-le-mul, mul-le-mul-left, lt-div-mul-add, div-lt-iff-lt-mul}
 use native.Mathlib.Omega.{arith}
 use borrow.Author.Tests.{le-leb, lt-leb}
 use lib.ListN.{getD}
 use Rattle.numbers.specs.ListLaws.{lt-or-le}
 use Rattle.specification.specs.declared.Link.{Link}
 use Rattle.specification.specs.Table.{Table, link, IsLink, IsBuffer}
-use Rattle.period.specs.PricesLaws.{mostProduct, product-most}
+use Rattle.period.specs.Component.{mostAmount, mostRate}
 use Rattle.specification.specs.Answers.{Size}
 use Rattle.results.specs.Kept.{aAt, bAt, startAt, fewestEvents, sizeAt, PortNumbers, TableNumbers, BufferNumbers, timingOf}
 
@@ -34,6 +34,13 @@ module _ (from to period : ℕ) where
   fewest-most some = fewest-least from some (omega (arith, mul-le-mul-left from some))
 
 -- ---- the numbers of a buffer
+-- the most of ε or a weight times a part of a period
+abbrev pub mostProduct : ℕ
+mostProduct = 6_400_000_000_000_000
+
+product-most : {x y : ℕ} → x ≤ mostAmount → y ≤ mostRate → x * y ≤ mostProduct
+product-most h k = omega (arith, mul-le-mul h k)
+
 -- the products of a buffer are small, and its sender's period is above zero
 pub record BufferProducts (l : Link) (weights kept : List ℕ) : Type 0 where
   pub forward : l .ticks .0 * bAt kept (l .from) ≤ mostProduct

@@ -6,10 +6,11 @@ ghost use Rattle.specification.specs.Bytes.{Written, cycleAnswer};
 ghost use Rattle.specification.specs.Answers.{floorRecord};
 ghost use Rattle.graph.specs.Searched.{connectionsOf, floorOf};
 ghost use Rattle.results.specs.Named.{NamedCycle, NamedBlock};
+use period::limit::Floor;
 use period::search::Cycle;
-use period::search::Floor;
 use period::search::Search;
 use records::write;
+use specification::limits;
 
 // The record of a cycle: the numbers of its connections.
 fn write_connections(numbers: &[u64], c: Cycle, tail: &mut [u8]) -> usize
@@ -39,6 +40,7 @@ fn write_limit(s: Search, numbers: &[u64], tail: &mut [u8]) -> usize
     match floor {
         Floor::Rate(port) => write::write_floor(tail, port),
         Floor::Lower => write_connections(numbers, s.limit, tail),
+        Floor::Zero => write::write_floor(tail, limits::ZERO_FLOOR_PORT),
     }
 }
 

@@ -43,13 +43,12 @@ module _ (cs : List ℕ) where
   starts-length zero = length-replicate {A = ℕ} 64 0
   starts-length (suc r) = relaxed-length cs (starts cs r) (count cs) ∙ starts-length r
 
-  module _ (p : Priced cs) where
-    pub starts-rows : (last : ℕ) → Rows (priced cs) (gainOf cs) (lossOf cs) last (startOf cs)
-    unfolding starts roundOf
-    starts-rows last = record {
-      start = λ j. zeros-at 64 j;
-      next = λ r l. relaxed-round cs (starts cs r) (count cs) (λ i m. omega (arith, p .to-in i m, starts-length r));
-    }
+  pub starts-rows : ((k : ℕ) → k < count cs → toOf cs k < 64) → (last : ℕ) → Rows (priced cs) (gainOf cs) (lossOf cs) last (startOf cs)
+  unfolding starts roundOf
+  starts-rows to-in last = record {
+    start = λ j. zeros-at 64 j;
+    next = λ r l. relaxed-round cs (starts cs r) (count cs) (λ i m. omega (arith, to-in i m, starts-length r));
+  }
 
-    pub starts-bound : (r j : ℕ) → startOf cs r j ≤ r * mostCost
-    starts-bound r j = rows-bound (starts-rows r) (p .gains) r (omega arith) j
+  pub starts-bound : Priced cs → (r j : ℕ) → startOf cs r j ≤ r * mostCost
+  starts-bound p r j = rows-bound (starts-rows (p .to-in) r) (p .gains) r (omega arith) j

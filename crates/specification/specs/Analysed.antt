@@ -6,7 +6,7 @@ use lib.ListN.{length}
 use Rattle.specification.specs.Table.{Table, IsPort, IsBuffer}
 use Rattle.specification.specs.Reading.{readTable}
 use Rattle.specification.specs.Bytes.{Written}
-use Rattle.specification.specs.Answers.{Timing, Answer, refused, disagreeing, overweight, blocked, consistent, number, records, AnswerOf, answerPlace}
+use Rattle.specification.specs.Answers.{Timing, Answer, refused, disagreeing, overweight, blocked, noLeast, consistent, number, records, AnswerOf, answerPlace}
 use Rattle.specification.specs.declared.Outcome.{Outcome}
 
 -- each number that is returned of a consistent model fits its field
@@ -23,6 +23,7 @@ Fits t (refused n) = Unit {0}
 Fits t (disagreeing loop) = Unit {0}
 Fits t overweight = Unit {0}
 Fits t (blocked floor block) = Unit {0}
+Fits t noLeast = Unit {0}
 Fits t (consistent r) = FieldsFit t r
 
 -- a right answer: its number is returned with its place, its records stand at the front of the answer buffer, and the rest is unchanged

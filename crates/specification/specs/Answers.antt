@@ -9,7 +9,7 @@ use Rattle.numbers.specs.Rationals.{Rational, share}
 use Rattle.specification.specs.Table.{Table, portCount, linkCount, mostPorts, mostLinks, link, IsPort, IsBuffer, from, to, ε⁺, ε⁻}
 use Rattle.specification.specs.Reading.{readTable}
 use Rattle.specification.specs.Ratios.{Step, Component, IsComponent, DisagreeingLoop, SmallWeights, Overweight}
-use Rattle.specification.specs.Periods.{Graph, LeastStarts, RateLimit, CycleLimit, Blocks, Period, graphIn}
+use Rattle.specification.specs.Periods.{Graph, LeastStarts, RateLimit, CycleLimit, Blocks, Period, ZeroFloor, BlocksAboveZero, HasPeriod, NoLeast, graphIn}
 use Rattle.specification.specs.Bytes.{portAnswer, portBytes, bufferAnswer, bufferBytes, loopAnswer, cycleAnswer, floorAnswer}
 
 -- what is returned of a consistent model: by port its component, weight, a, b and start times b; by number of a buffer its size
@@ -29,10 +29,11 @@ periodOf r p = share (r .weight p * r .a p) (r .b p) (r .over p)
 abbrev pub startOf : Timing → ℕ → Rational
 startOf r p = share (r .start p) (r .b p) (r .over p)
 
--- what stands under every period: the rate limit of a port, or the lower limit of a cycle. "Floor" is document 01's word
+-- what stands under every period: the rate limit of a port, the lower limit of a cycle, or zero. "Floor" is document 01's word
 pub data Floor : Type 0 where
   rate : (port : ℕ) → Floor
   cycle : (connections : List ℕ) → Floor
+  zeroFloor : Floor
 
 pub data Answer : Type 0 where
   -- a number from 1 to 12
@@ -40,6 +41,8 @@ pub data Answer : Type 0 where
   disagreeing : (loop : List Step) → Answer
   overweight : Answer
   blocked : Floor → (block : List ℕ) → Answer
+  -- periods exist, but in some component no least
+  noLeast : Answer
   consistent : Timing → Answer
 
 abbrev pub number : Answer → ℕ
@@ -47,6 +50,7 @@ number (refused n) = n
 number (disagreeing loop) = 13
 number overweight = 14
 number (blocked floor block) = 15
+number noLeast = 17
 number (consistent r) = 0
 
 -- ---- the records of an answer, as bytes
@@ -55,9 +59,14 @@ abbrev pub loopNumbers : List Step → List ℕ
 loopNumbers [] = []
 loopNumbers (s ∷ loop) = s .number ∷ cond (s .against) 1 0 ∷ loopNumbers loop
 
+-- the port that stands in the record of the floor zero
+abbrev pub zeroFloorPort : ℕ
+zeroFloorPort = 65535
+
 abbrev pub floorRecord : Floor → List ℕ
 floorRecord (rate p) = floorAnswer p
 floorRecord (cycle path) = cycleAnswer path
+floorRecord zeroFloor = floorAnswer zeroFloorPort
 
 -- one for each of the first n ports, in order
 unfoldable pub portRecords : Timing → ℕ → List ℕ
@@ -74,27 +83,50 @@ records t (refused n) = []
 records t (disagreeing loop) = loopAnswer (loopNumbers loop)
 records t overweight = []
 records t (blocked floor block) = floorRecord floor ++ cycleAnswer block
+records t noLeast = []
 records t (consistent r) = portRecords r (portCount t) ++ bufferRecords t r (linkCount t)
 
 -- ---- which answers are right
--- a/b is the floor
-abbrev pub IsFloor : Graph → Floor → ℕ → ℕ → Type 0
-IsFloor g (rate p) a b = RateLimit g p a b
-IsFloor g (cycle path) a b = CycleLimit g path a b
+-- a limit a/b above zero, and a cycle that blocks there and so above
+pub record BlockedFrom (g : Graph) (Limit : ℕ → ℕ → Type 0) (block : List ℕ) : Type 0 where
+  pub a : ℕ
+  pub b : ℕ
+  pub above-zero : 0 < a
+  pub over : 0 < b
+  pub is-limit : Limit a b
+  pub blocks : Blocks g block a b
+
+-- no rate, and a cycle that blocks every period above zero
+pub record BlockedFromZero (g : Graph) (block : List ℕ) : Type 0 where
+  pub is-zero : ZeroFloor g
+  pub blocks : BlocksAboveZero g block
+
+-- the cycle blocks every period from this floor on, or above it where it is zero
+abbrev pub Blocked : Graph → Floor → (block : List ℕ) → Type 0
+Blocked g (rate p) block = BlockedFrom g (RateLimit g p) block
+Blocked g (cycle path) block = BlockedFrom g (CycleLimit g path) block
+Blocked g zeroFloor block = BlockedFromZero g block
 
 module _ (t : Table) where
-  -- number 15: a floor and a blocking cycle, both of the lowest component without a period
+  -- number 15: a floor and a blocking cycle, both of the lowest component without a period. A component with periods but no least has one
   pub record NoPeriod (floor : Floor) (block : List ℕ) : Type 0 where
     pub w : ℕ → ℕ
     pub weights : SmallWeights t w
     pub c : ℕ
     pub component : IsComponent t c
-    pub a : ℕ
-    pub b : ℕ
-    pub over : 0 < b
-    pub is-floor : IsFloor (graphIn t w c) floor a b
-    pub blocks : Blocks (graphIn t w c) block a b
-    pub lower : (d : ℕ) → IsComponent t d → d < c → (x : ℕ) × (y : ℕ) × Period (graphIn t w d) x y
+    pub is-blocked : Blocked (graphIn t w c) floor block
+    pub lower : (d : ℕ) → IsComponent t d → d < c → HasPeriod (graphIn t w d)
+
+  -- number 17: every component has a period, and component c no least one
+  pub record NoLeastPeriod : Type 0 where
+    pub w : ℕ → ℕ
+    pub weights : SmallWeights t w
+    pub component : ℕ → ℕ
+    pub components : (p : ℕ) → IsPort t p → Component t p (component p)
+    pub periods : (d : ℕ) → IsComponent t d → HasPeriod (graphIn t w d)
+    pub c : ℕ
+    pub is-component : IsComponent t c
+    pub no-least : NoLeast (graphIn t w c)
 
   module _ (r : Timing) where
     -- so many events are enough for buffer k: the receiver's start is no less than the sender's plus ε minus d times the sender's period
@@ -120,6 +152,7 @@ module _ (t : Table) where
   Right (disagreeing loop) = DisagreeingLoop t loop
   Right overweight = Overweight t
   Right (blocked floor block) = NoPeriod floor block
+  Right noLeast = NoLeastPeriod
   Right (consistent r) = Consistent r
 
 -- the least answer buffer: 64 port answers and 256 buffer answers, 5,120 bytes

@@ -20,6 +20,8 @@ module _ (t : Table) (size : ℕ → ℕ) where
     -- from event k to k + 1 of one port, which adds 1 / maximum rate
     spacing : {p k : ℕ} {time : Rational} → Chain p k time → (some : 0 < port t p .num)
         → Chain p (suc k) (time ⊕ share (port t p .den) (port t p .num) some)
+    -- the same at a port without a rate, which adds 0
+    free-spacing : {p k : ℕ} {time : Rational} → Chain p k time → port t p .num ≡ 0 → Chain p (suc k) time
     -- along connection n to event k of its receiver, from the sender's event k divided by the ratio, rounded down, plus δ
     connection : {m : ℕ} {time : Rational} (n k : ℕ) → IsConnection t n → Chain (from t n) m time
         → m + δ⁻ t n ≡ k * den t n / num t n + δ⁺ t n

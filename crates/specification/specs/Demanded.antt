@@ -8,8 +8,8 @@ use Rattle.specification.specs.Table.{Table}
 use Rattle.specification.specs.Reading.{FaultPlace, start, readTable}
 use Rattle.specification.specs.Ratios.{Step, DisagreeingLoop, Overweight}
 use Rattle.specification.specs.Bytes.{Written, NothingWritten, loopAnswer, cycleAnswer}
-use Rattle.specification.specs.Answers.{Timing, Floor, consistent, records, loopNumbers, floorRecord, NoPeriod, leastRoom}
-use Rattle.specification.specs.Solutions.{Solution, LeastSolution}
+use Rattle.specification.specs.Answers.{Timing, Floor, consistent, records, loopNumbers, floorRecord, NoPeriod, NoLeastPeriod, leastRoom}
+use Rattle.specification.specs.Solutions.{Solution, LeastSolution, NoLeastSolution}
 use Rattle.specification.specs.Chains.{Demand3}
 use Rattle.specification.specs.Analysed.{Analysed, FieldsFit}
 use Rattle.specification.specs.declared.Outcome.{Outcome}
@@ -39,6 +39,12 @@ module _ (t : Table) (before after : List ℕ) (r : Outcome) where
     pub records-are : Written (floorRecord floor ++ cycleAnswer block) before after (r .written)
     pub unsolved : ¬ Solution t
 
+-- number 17: every component has periods, some component no least; a solution exists, and none is the least
+pub record NoLeastCall (t : Table) : Type 0 where
+  pub no-least-period : NoLeastPeriod t
+  pub solution : Solution t
+  pub no-least : NoLeastSolution t
+
 -- demand 2 calls a table well-formed when its call comes as far as trying 13
 pub record WellFormedCall (s before : List ℕ) : Type 0 where
   pub enough : leastRoom ≤ length before
@@ -50,15 +56,15 @@ pub record TableFault (n : ℕ) : Type 0 where
   pub most : n ≤ 12
 
 pub record Demanded (s before after : List ℕ) (r : Outcome) : Type 0 where
-  -- demand 1: the first number that fits, and else 0 or 13 to 15
+  -- demand 1: the first number that fits, and else 0, 13 to 15 or 17
   pub short : length before < leastRoom → r .number ≡ 1
   pub faulty : leastRoom ≤ length before → readTable s .number ≢ 0 → r .number ≡ readTable s .number
   pub a-fault : leastRoom ≤ length before → readTable s .number ≢ 0 → TableFault (r .number)
-  pub listed : WellFormedCall s before → (r .number ≡ 0) ⊎ ((r .number ≡ 13) ⊎ ((r .number ≡ 14) ⊎ (r .number ≡ 15)))
+  pub listed : WellFormedCall s before → (r .number ≡ 0) ⊎ ((r .number ≡ 13) ⊎ ((r .number ≡ 14) ⊎ ((r .number ≡ 15) ⊎ (r .number ≡ 17))))
   -- the place: 2 to 11 have that of the first faulty record, every other number has 0
   pub place : 2 ≤ r .number → r .number ≤ 11 → FaultPlace s start (r .number) (r .place)
   pub no-place : (r .number < 2) ⊎ (11 < r .number) → r .place ≡ 0
-  -- 1 to 12 and 14 write nothing; other bytes than the written ones are unchanged
+  -- 1 to 12, 14 and 17 write nothing; other bytes than the written ones are unchanged
   pub nothing : r .number ≢ 0 → r .number ≢ 13 → r .number ≢ 15 → NothingWritten before after (r .written)
   pub room : r .written ≤ leastRoom
   pub same-length : length after ≡ length before
@@ -72,4 +78,5 @@ pub record Demanded (s before after : List ℕ) (r : Outcome) : Type 0 where
   pub disagreeing : r .number ≡ 13 → DisagreeingCall (readTable s .table) before after r
   pub overweight : r .number ≡ 14 → Overweight (readTable s .table)
   pub blocked : r .number ≡ 15 → BlockedCall (readTable s .table) before after r
-  pub only : WellFormedCall s before → Solution (readTable s .table) → r .number ≢ 14 → r .number ≡ 0
+  pub no-least : r .number ≡ 17 → NoLeastCall (readTable s .table)
+  pub only : WellFormedCall s before → Solution (readTable s .table) → r .number ≢ 14 → (r .number ≡ 0) ⊎ (r .number ≡ 17)

@@ -11,7 +11,7 @@ use Rattle.specification.specs.Ratios.{Component}
 -- ports, and edges that cost E + D · a/b
 pub record Graph : Type 1 where
   pub IsPort : ℕ → Type 0
-  -- a port's rate limit is limitNum / limitDen: no smaller a/b serves it
+  -- a port's rate limit is limitNum / limitDen: no smaller a/b serves it. Both are 0 where the port has no rate: every a/b serves it
   pub limitNum : ℕ → ℕ
   pub limitDen : ℕ → ℕ
   pub IsEdge : ℕ → Type 0
@@ -60,9 +60,10 @@ module _ (g : Graph) where
     pub rates : (p : ℕ) → g .IsPort p → g .limitNum p * b ≤ g .limitDen p * a
     pub cycles : (p : ℕ) (path : List ℕ) → Walk p p path → sum (gain a b) path ≤ sum (loss a b) path
 
-  -- a/b is the rate limit of port p
+  -- a/b is the rate limit of port p, which has a rate
   pub record RateLimit (p a b : ℕ) : Type 0 where
     pub a-port : g .IsPort p
+    pub rated : 0 < g .limitDen p
     pub exact : g .limitNum p * b ≡ g .limitDen p * a
 
   -- a/b is the lower limit of a cycle: D is below zero, and the cycle's weight at a/b is zero
@@ -77,6 +78,16 @@ module _ (g : Graph) where
     pub rising : sum (g .D⁻) path ≤ sum (g .D⁺) path
     pub positive : sum (loss a b) path < sum (gain a b) path
 
+  -- no port has a rate, so that zero is a floor under the periods
+  pub record ZeroFloor : Type 0 where
+    pub unrated : (p : ℕ) → g .IsPort p → g .limitDen p ≡ 0
+
+  -- a cycle that is positive at every a/b above zero, with D zero or more; at zero itself it need not be
+  pub record BlocksAboveZero (path : List ℕ) : Type 0 where
+    pub cycle : Cycle path
+    pub rising : sum (g .D⁻) path ≤ sum (g .D⁺) path
+    pub positive : (a b : ℕ) → 0 < a → 0 < b → sum (loss a b) path < sum (gain a b) path
+
   -- document 01: the greatest of the rate limits and the lower limits, provided no cycle with D zero or more is positive there
   pub record Period (a b : ℕ) : Type 0 where
     pub above-zero : 0 < a
@@ -84,6 +95,31 @@ module _ (g : Graph) where
     pub lowest : Coprime a b
     pub serves : Serves a b
     pub limit : ((p : ℕ) × RateLimit p a b) ⊎ ((path : List ℕ) × CycleLimit path a b)
+
+  -- a/b above zero with starts, over b, that meet (2), and no port faster than its rate
+  pub record Possible (a b : ℕ) : Type 0 where
+    pub above-zero : 0 < a
+    pub over : 0 < b
+    pub rates : (p : ℕ) → g .IsPort p → g .limitNum p * b ≤ g .limitDen p * a
+    pub start : ℕ → ℕ
+    pub meets : Meets a b start
+
+  pub record HasPeriod : Type 0 where
+    pub a : ℕ
+    pub b : ℕ
+    pub possible : Possible a b
+
+  -- x/y is possible and below a/b
+  pub record SmallerPeriod (a b : ℕ) : Type 0 where
+    pub x : ℕ
+    pub y : ℕ
+    pub possible : Possible x y
+    pub less : x * b < a * y
+
+  -- periods but no least one: below each a/b that serves another is possible
+  pub record NoLeast : Type 0 where
+    pub some : HasPeriod
+    pub smaller : (a b : ℕ) → 0 < a → 0 < b → Serves a b → SmallerPeriod a b
 
 -- ---- the graph of a component of a table
 module _ (t : Table) where
@@ -97,7 +133,8 @@ module _ (t : Table) where
     pub connection : IsConnection t k
     pub component : Component t (from t k) c
 
-  -- the rate limit of a port is 1 divided by rate times weight; E of an edge is ε, D is δ times the sender's weight
+  -- the rate limit of a port is 1 divided by rate times weight, and 0/0 for the rate 0/0; E of an edge is ε, D is δ times the sender's
+  -- weight
   abbrev pub graphIn : (ℕ → ℕ) → ℕ → Graph
   graphIn w c = record {
     IsPort = PortIn c;

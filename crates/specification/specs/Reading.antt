@@ -53,6 +53,10 @@ partFaulty x = eqb x 0 || ltb mostPart x
 unfoldable pub partsFaulty : List ℕ → ℕ → Bool
 partsFaulty s at = partFaulty (numberAt s at 2) || partFaulty (numberAt s (at + 2) 2)
 
+-- a rate: 0 goes with 0 alone, which means no rate; else it has the parts of a ratio
+unfoldable pub rateFaulty : List ℕ → ℕ → Bool
+rateFaulty s at = cond (eqb (numberAt s at 2) 0) (not (eqb (numberAt s (at + 2) 2) 0)) (partsFaulty s at)
+
 -- from or to names no port
 unfoldable pub endsFaulty : List ℕ → ℕ → ℕ → Bool
 endsFaulty s at named = leb named (numberAt s at 2) || leb named (numberAt s (at + 2) 2)
@@ -93,7 +97,7 @@ portAt s at n before =
     refuse at 4 (not (eqb n 6))
     (refuse at 5 (not (before .«port_may_come»))
     (refuse at 6 (leb mostPorts (before .ports))
-    (refuse at 8 (partsFaulty s (at + 4))
+    (refuse at 8 (rateFaulty s (at + 4))
     (PortRecord (portOf s (at + 4)) (at + 8)))))
 
 -- kinds 2 and 3 behind the test of their length

@@ -1,4 +1,4 @@
--- Demand 2's other side: rational periods and starts, of any sign, that meet (1) to (3), and the least of them.
+-- Demand 2's other side: rational periods and starts, of any sign, that meet (1) to (3), the least of them, and that there is none.
 use Prim.Native.Nat.{ℕ, _≤_}
 use Rattle.numbers.specs.Rationals.{Rational, _≼_, _≺_, _≈_, _⊕_, _·_, _⊗_, whole, signed}
 use Rattle.specification.specs.Table.{Table, port, IsPort, IsLink, IsConnection, IsBuffer, from, to, num, den, ε⁺, ε⁻, δ⁺, δ⁻}
@@ -20,7 +20,7 @@ module _ (t : Table) where
   pub record Starts (period start : ℕ → Rational) : Type 0 where
     pub holds : (k : ℕ) → IsConnection t k → start (from t k) ⊕ ε k ⊕ δ k ⊗ period (from t k) ≼ start (to t k)
 
-  -- (3) a port's period is no less than 1 divided by its maximum rate
+  -- (3) a port's period is no less than 1 divided by its maximum rate; of a port with the rate 0/0 it asks nothing
   pub record Rates (period : ℕ → Rational) : Type 0 where
     pub holds : (p : ℕ) → IsPort t p → whole (port t p .den) ≼ port t p .num · period p
 
@@ -51,3 +51,14 @@ module _ (t : Table) where
     pub least-starts : (start : ℕ → Rational) → ((p : ℕ) → IsPort t p → whole 0 ≼ start p) → Starts (periodOf r) start
         → (p : ℕ) → IsPort t p → startOf r p ≼ start p
     pub fewest-events : (k : ℕ) → IsBuffer t k → FewestEvents (periodOf r) (startOf r) k (r .size k)
+
+  -- another solution with a smaller period at port p
+  pub record SmallerAt (p : ℕ) (s : Solution) : Type 0 where
+    pub other : Solution
+    pub less : other .period p ≺ s .period p
+
+  -- no solution is the least: at some port each has another with a smaller period
+  pub record NoLeastSolution : Type 0 where
+    pub p : ℕ
+    pub a-port : IsPort t p
+    pub smaller : (s : Solution) → SmallerAt p s

@@ -14,7 +14,7 @@ mostPorts = 64
 abbrev pub mostLinks : ℕ
 mostLinks = 256
 
--- rate and ratio parts 1 to 1,000
+-- rate and ratio parts 1 to 1,000; a rate may also be 0/0, which means none
 abbrev pub mostPart : ℕ
 mostPart = 1000
 

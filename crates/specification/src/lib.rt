@@ -7,7 +7,7 @@ pub struct Ticks(pub u64, pub u64);
 // A number of events: an amount forward and an amount back.
 pub struct Events(pub u64, pub u64);
 
-// A port; its maximum rate is num / den events per tick.
+// A port; its maximum rate is num / den events per tick, or 0 / 0 where it has none of its own.
 pub struct Port {
     pub num: u64,
     pub den: u64,

@@ -18,3 +18,6 @@ pub const BUFFER_BYTES: usize = 14;
 
 // The least answer buffer.
 pub const LEAST_ROOM: usize = PORTS * PORT_BYTES + LINKS * BUFFER_BYTES;
+
+// The port in the record of the floor zero.
+pub const ZERO_FLOOR_PORT: u64 = 65535;

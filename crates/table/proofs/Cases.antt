@@ -10,6 +10,7 @@ use Rattle.specification.specs.Reading.{
   lengthFaulty,
   partFaulty,
   partsFaulty,
+  rateFaulty,
   endsFaulty,
   amountFaulty,
   delaysFaulty,
@@ -59,6 +60,7 @@ cases =
     -- well-formed
     (one gives 0 at 0)
     ∷ (port 1000 1000 gives 0 at 0)
+    ∷ (port 0 0 gives 0 at 0)
     ∷ (one ++ connection 0 0 1 1 0 0 gives 0 at 0)
     ∷ (one ++ port 1 2 ++ connection 0 1 1000 1000 10000000 1000 gives 0 at 0)
     ∷ (one ++ port 1 2 ++ connection 1 0 1 1 (minus 10000000) (minus 1000) gives 0 at 0)
@@ -87,9 +89,12 @@ cases =
     -- 5: a port behind a connection, behind a buffer
     ∷ (one ++ connection 0 0 1 1 0 0 ++ one gives 5 at 28)
     ∷ (one ++ buffer 0 0 1 1 0 ++ one gives 5 at 24)
-    -- 8: rate parts
+    -- 8: rate parts; 0 with anything but 0
     ∷ (port 0 1 gives 8 at 0)
     ∷ (port 1 0 gives 8 at 0)
+    ∷ (port 0 1000 gives 8 at 0)
+    ∷ (port 0 1001 gives 8 at 0)
+    ∷ (one ++ port 0 65535 gives 8 at 8)
     ∷ (port 1001 1 gives 8 at 0)
     ∷ (port 1 1001 gives 8 at 0)
     -- 9: from and to, which count the ports so far
@@ -100,6 +105,8 @@ cases =
     -- 10: ratio parts
     ∷ (one ++ connection 0 0 0 1 0 0 gives 10 at 8)
     ∷ (one ++ connection 0 0 1 0 0 0 gives 10 at 8)
+    ∷ (one ++ connection 0 0 0 0 0 0 gives 10 at 8)
+    ∷ (one ++ buffer 0 0 0 0 0 gives 10 at 8)
     ∷ (one ++ connection 0 0 1001 1 0 0 gives 10 at 8)
     ∷ (one ++ buffer 0 0 1 1001 0 gives 10 at 8)
     -- 11: ε and δ
@@ -116,7 +123,7 @@ cases =
     -- several faults in one record: the lowest number
     ∷ (encode 9 (0 ∷ []) gives 3 at 0)
     ∷ (one ++ buffer 0 0 1 1 0 ++ encode 1 [] gives 4 at 24)
-    ∷ (one ++ buffer 0 0 1 1 0 ++ port 0 0 gives 5 at 24)
+    ∷ (one ++ buffer 0 0 1 1 0 ++ port 0 1 gives 5 at 24)
     ∷ (one ++ connection 7 7 0 0 10000001 1001 gives 9 at 8)
     ∷ (one ++ connection 0 0 0 0 10000001 1001 gives 10 at 8)
     -- a record without fault behind a faulty one
@@ -134,5 +141,5 @@ due : Case → ℕ × ℕ
 due c = (c .number, c .place)
 
 cases-hold : map given cases ≡ map due cases
-unfolding given due cases _gives_at_ port connection buffer minus one bytes encode numberAt forward back lengthFaulty partFaulty partsFaulty endsFaulty amountFaulty delaysFaulty ticksAt eventsAt portOf linkOf portAt linkAt connectionAt bufferAt kindAt recordAt readFrom readOn readTable
+unfolding given due cases _gives_at_ port connection buffer minus one bytes encode numberAt forward back lengthFaulty partFaulty partsFaulty rateFaulty endsFaulty amountFaulty delaysFaulty ticksAt eventsAt portOf linkOf portAt linkAt connectionAt bufferAt kindAt recordAt readFrom readOn readTable
 cases-hold = refl

@@ -12,7 +12,7 @@ use lib.Dec.{eqb}
 use borrow.Author.Tests.{eqb-true, eqb-false, ne-eqb, not-false, le-leb, lt-leb, le-ltb}
 use Rattle.specification.specs.Bytes.{numberAt}
 use Rattle.specification.specs.Table.{Table, portCount, linkCount, mostPorts, mostLinks}
-use Rattle.specification.specs.Reading.{refuse, lengthFaulty, partsFaulty, endsFaulty, ticksAt, eventsAt, portOf, linkOf, portAt, linkAt, connectionAt, bufferAt, kindAt, recordAt, Reading, withPort, withLink, after, readFrom, readOn, withTable, FaultPlace, start, readTable}
+use Rattle.specification.specs.Reading.{refuse, lengthFaulty, partsFaulty, rateFaulty, endsFaulty, ticksAt, eventsAt, portOf, linkOf, portAt, linkAt, connectionAt, bufferAt, kindAt, recordAt, Reading, withPort, withLink, after, readFrom, readOn, withTable, FaultPlace, start, readTable}
 use Rattle.specification.specs.Demanded.{TableFault}
 use Rattle.specification.specs.Joining.{RecordFault}
 use Rattle.table.specs.RecordLaws.{Onward, Accepted, accepted}
@@ -44,7 +44,7 @@ module _ (s : List ℕ) (m at : ℕ) (b : Before) where
   field at n h = number-front s m at n h
 
   port-front : (n : ℕ) → at + 2 + n ≤ m → portAt front at n b ≡ portAt s at n b
-  unfolding portAt partsFaulty portOf
+  unfolding portAt rateFaulty partsFaulty portOf
   port-front n h =
       refuse-same at 4 (not (eqb n 6))
       (λ size.

@@ -18,6 +18,7 @@ use Rattle.specification.specs.Reading.{
   lengthFaulty,
   partFaulty,
   partsFaulty,
+  rateFaulty,
   endsFaulty,
   amountFaulty,
   delaysFaulty,
@@ -121,6 +122,26 @@ parts-fit s at h =
     let both = neither (partFaulty (numberAt s at 2)) (partFaulty (numberAt s (at + 2) 2)) h in
     record { num = part-fits (numberAt s at 2) (both .left); den = part-fits (numberAt s (at + 2) 2) (both .right) }
 
+-- a rate whose numerator is 0 has the denominator 0; another has the parts of a ratio
+rate-fits : (s : List ℕ) (at : ℕ) → rateFaulty s at ≡ false → PortFits (portOf s at)
+unfolding rateFaulty portOf
+rate-fits s at h = decided (eqb (numberAt s at 2) 0) refl h
+  where
+    decided : (none : Bool) → eqb (numberAt s at 2) 0 ≡ none → cond none (not (eqb (numberAt s (at + 2) 2) 0)) (partsFaulty s at) ≡ false
+        → PortFits (record { num = numberAt s at 2; den = numberAt s (at + 2) 2 })
+    decided true none even =
+        let num = eqb-true (numberAt s at 2) 0 none in
+        let den = eqb-true (numberAt s (at + 2) 2) 0 (not-false (eqb (numberAt s (at + 2) 2) 0) even) in
+        record { num-most = omega arith; den-most = omega arith; rated = λ l. omega arith; unrated = λ e. den }
+    decided false some parts =
+        let fit = parts-fit s at parts in
+        record {
+          num-most = fit .num .most;
+          den-most = fit .den .most;
+          rated = λ l. fit .den .least;
+          unrated = λ e. absurd (omega (arith, fit .num .least));
+        }
+
 record EndsFit (s : List ℕ) (at named : ℕ) : Type 0 where
   from : numberAt s at 2 < named
   to : numberAt s (at + 2) 2 < named
@@ -169,20 +190,18 @@ module _ (s : List ℕ) (at : ℕ) (before : Before) where
 
   tells-port : (n : ℕ) → numberAt s at 2 ≡ n → at + 2 + n ≤ length s → eqb (numberAt s (at + 2) 2) 1 ≡ true → Tells (portAt s at n before)
   unfolding portAt portOf
-  tells-port n is ends kind = behind 4 (omega arith) _ _ (λ size. behind 5 (omega arith) _ _ (λ may. behind 6 (omega arith) _ _ (λ room. behind 8 (omega arith) _ _ (λ parts. record { told = told size may room parts }))))
+  tells-port n is ends kind = behind 4 (omega arith) _ _ (λ size. behind 5 (omega arith) _ _ (λ may. behind 6 (omega arith) _ _ (λ room. behind 8 (omega arith) _ _ (λ rate. record { told = told size may room rate }))))
     where
       told : not (eqb n 6) ≡ false → not (before .«port_may_come») ≡ false → leb mostPorts (before .ports) ≡ false
-          → partsFaulty s (at + 4) ≡ false
+          → rateFaulty s (at + 4) ≡ false
           → PortAccepted s at before (portOf s (at + 4)) (at + 8)
-      told size may room parts =
-          let fit = parts-fit s (at + 4) parts in
-          record {
-            onward = omega (arith, sized n 6 size);
-            kind = kind;
-            room = leb-false mostPorts (before .ports) room;
-            may-come = not-false (before .«port_may_come») may;
-            fits = record { num = fit .num; den = fit .den };
-          }
+      told size may room rate = record {
+        onward = omega (arith, sized n 6 size);
+        kind = kind;
+        room = leb-false mostPorts (before .ports) room;
+        may-come = not-false (before .«port_may_come») may;
+        fits = rate-fits s (at + 4) rate;
+      }
 
   tells-link : (events : Events) (buffer : Bool) (next : ℕ) → Onward s at 16 20 next → eqb (numberAt s (at + 2) 2) 1 ≡ false
       → events .0 * events .1 ≡ 0

@@ -10,9 +10,12 @@ pub record PartFits (x : ℕ) : Type 0 where
   pub least : 0 < x
   pub most : x ≤ mostPart
 
+-- both parts of a rate, or 0 for both
 pub record PortFits (p : Port) : Type 0 where
-  pub num : PartFits (p .num)
-  pub den : PartFits (p .den)
+  pub num-most : p .num ≤ mostPart
+  pub den-most : p .den ≤ mostPart
+  pub rated : 0 < p .num → 0 < p .den
+  pub unrated : p .num ≡ 0 → p .den ≡ 0
 
 -- a link between ports below a number
 pub record LinkFits (ports : ℕ) (l : Link) : Type 0 where

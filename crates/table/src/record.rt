@@ -2,7 +2,7 @@
 ghost use mathlib.Core.Path.{_≡_};
 ghost use Prim.Native.Nat.{_+_, _≤_, _<_};
 ghost use lib.ListN.{length};
-ghost use Rattle.specification.specs.Reading.{lengthFaulty, partFaulty, partsFaulty, endsFaulty, ticksAt, eventsAt, amountFaulty, delaysFaulty, portOf, linkOf, portAt, linkAt, kindAt, recordAt};
+ghost use Rattle.specification.specs.Reading.{lengthFaulty, partFaulty, partsFaulty, rateFaulty, endsFaulty, ticksAt, eventsAt, amountFaulty, delaysFaulty, portOf, linkOf, portAt, linkAt, kindAt, recordAt};
 use crate::numbers;
 use records::read::number_at;
 use specification::Before;
@@ -46,6 +46,17 @@ fn parts_faulty(s: &[u8], at: usize) -> bool
         return true;
     }
     part_faulty(number_at(s, at + 2, 2))
+}
+
+// A rate: no rate is 0/0.
+fn rate_faulty(s: &[u8], at: usize) -> bool
+    requires { ⌜ at + 4 ≤ length (now s) ⌝ }
+    ensures { λ r. ⌜ r ≡ rateFaulty (now (s .entry)) at ⌝ }
+{
+    if number_at(s, at, 2) == 0 {
+        return number_at(s, at + 2, 2) != 0;
+    }
+    parts_faulty(s, at)
 }
 
 // From and to.
@@ -136,7 +147,7 @@ fn read_port(s: &[u8], at: usize, n: usize, before: Before) -> Read
     if limits::PORTS <= before.ports {
         return Read::Refused(6, at);
     }
-    if parts_faulty(s, at + 4) {
+    if rate_faulty(s, at + 4) {
         return Read::Refused(8, at);
     }
     Read::PortRecord(port_of(s, at + 4), at + 8)

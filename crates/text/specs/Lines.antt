@@ -6,6 +6,7 @@ use lib.Dec.{eqb, ltb}
 use Rattle.io.specs.Digits.{glyph}
 use Rattle.fraction.specs.Lowest.{lowestTerms}
 use Rattle.fraction.specs.declared.Fraction.{Fraction}
+use Rattle.specification.specs.Answers.{zeroFloorPort}
 
 -- ---- numbers and words
 -- a number in decimal, without leading zeros, of at most k + 1 digits
@@ -144,3 +145,11 @@ itemsLine word items = word ++ items ++ lineEnd
 -- a port whose rate limit is the floor
 unfoldable pub floorPortLine : (port : ℕ) → List ℕ
 floorPortLine port = field floorPortWord port ++ lineEnd
+
+-- "floor zero"
+abbrev pub zeroFloorLine : List ℕ
+zeroFloorLine = 102 ∷ 108 ∷ 111 ∷ 111 ∷ 114 ∷ 32 ∷ 122 ∷ 101 ∷ 114 ∷ 111 ∷ 10 ∷ []
+
+-- the line of a floor, by the port that stands in its record
+unfoldable pub floorLine : (port : ℕ) → List ℕ
+floorLine port = cond (eqb port zeroFloorPort) zeroFloorLine (floorPortLine port)

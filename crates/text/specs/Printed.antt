@@ -5,7 +5,7 @@ use mathlib.Core.List.{List, [], _++_}
 use lib.Dec.{eqb, ltb, leb}
 use lib.ListN.{length}
 use Rattle.specification.specs.Bytes.{numberAt}
-use Rattle.text.specs.Lines.{loopWord, floorCycleWord, blockWord, answerLine, portLine, bufferLine, stepText, connectionText, itemsLine, floorPortLine}
+use Rattle.text.specs.Lines.{loopWord, floorCycleWord, blockWord, answerLine, portLine, bufferLine, stepText, connectionText, itemsLine, floorLine}
 
 -- the floor, where it is the first record, and else the block
 unfoldable pub cycleWord : (number : ℕ) → List ℕ
@@ -53,7 +53,7 @@ module _ (s : List ℕ) where
 
   -- kind 20
   unfoldable pub floorAt : (at : ℕ) → List ℕ
-  floorAt at = floorPortLine (numberAt s (at + 4) 2)
+  floorAt at = floorLine (numberAt s (at + 4) 2)
 
   -- the b of a port is above 0
   unfoldable pub hasPeriod : (at : ℕ) → Bool

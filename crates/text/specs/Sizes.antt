@@ -10,6 +10,7 @@ use borrow.Author.Tests.{eqb-true}
 use Rattle.io.specs.Digits.{glyph}
 use Rattle.fraction.specs.declared.Fraction.{Fraction}
 use Rattle.specification.specs.Bytes.{numberAt}
+use Rattle.specification.specs.Answers.{zeroFloorPort}
 use Rattle.text.specs.Places.{Lies, is-record, size-port, size-buffer, size-loop, size-cycle, size-floor}
 use Rattle.text.specs.Lines.{
   decimal,
@@ -41,6 +42,8 @@ use Rattle.text.specs.Lines.{
   connectionText,
   itemsLine,
   floorPortLine,
+  zeroFloorLine,
+  floorLine,
 }
 use Rattle.text.specs.Printed.{cycleWord, itemsText, portAt, bufferAt, stepAt, connectionAt, loopAt, cycleAt, floorAt, isRecord, recordLine, recordLines, printed, printedRoom}
 
@@ -113,9 +116,9 @@ buffer-size : (number size : ℕ) → AtMost (bufferLine number size) 54
 unfolding bufferLine
 buffer-size number size = field-size bufferWord _ ⊕ field-size sizeWord _ ⊕ word lineEnd
 
-floor-size : (port : ℕ) → AtMost (floorPortLine port) 32
-unfolding floorPortLine
-floor-size port = field-size floorPortWord _ ⊕ word lineEnd
+floor-size : (port : ℕ) → AtMost (floorLine port) 32
+unfolding floorLine floorPortLine
+floor-size port = either (eqb port zeroFloorPort) (λ e. less (word zeroFloorLine) (omega arith)) (λ e. field-size floorPortWord _ ⊕ word lineEnd)
 
 line-size : {xs items : List ℕ} {m n : ℕ} → AtMost xs m → AtMost items n → AtMost (itemsLine xs items) (m + n + 1)
 unfolding itemsLine

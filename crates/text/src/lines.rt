@@ -11,6 +11,7 @@ use crate::put::put_fraction_field;
 use crate::put::put_word;
 use fraction::Fraction;
 use records::read::number_at;
+use specification::limits;
 
 fn put_port_text(
     text: &mut [u8],
@@ -151,6 +152,10 @@ pub fn put_floor(s: &[u8], at: usize, text: &mut [u8], to: usize) -> usize
     requires { ⌜ to + 32 ≤ length (now text) ⌝ }
     ensures { λ r. ⌜ Put (floorAt (now (s .entry)) at) (now (text .entry)) (now (text .exit)) to r ⌝ }
 {
-    let end = put_field(text, to, b"floor port ", number_at(s, at + 4, 2));
+    let port = number_at(s, at + 4, 2);
+    if port == limits::ZERO_FLOOR_PORT {
+        return put_word(text, to, b"floor zero\n");
+    }
+    let end = put_field(text, to, b"floor port ", port);
     put_word(text, end, b"\n")
 }

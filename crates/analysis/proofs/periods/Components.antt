@@ -8,20 +8,20 @@ use native.Mathlib.Omega.{arith}
 use lib.ListN.{length, getD}
 use Rattle.fraction.specs.declared.Fraction.{Fraction}
 use Rattle.numbers.specs.Lists.{_∈_}
-use Rattle.specification.specs.Periods.{LeastStarts, PortIn, graphIn}
+use Rattle.specification.specs.Periods.{LeastStarts, HasPeriod, PortIn, graphIn}
 use Rattle.table.specs.WellFormed.{WellFormed}
 use Rattle.specification.specs.Table.{Table, portCount, IsPort, from, to, IsBuffer}
 use Rattle.ways.specs.WayLaws.{component-unique}
 use Rattle.period.specs.declared.search.Search.{Search}
 use Rattle.demands.specs.ConstraintLaws.{from-in, to-in, names-component}
 use Rattle.specification.specs.Ratios.{IsComponent, SmallWeights}
-use Rattle.specification.specs.Answers.{NoPeriod, Size, Consistent}
+use Rattle.specification.specs.Answers.{NoPeriod, NoLeastPeriod, Size, Consistent}
 use Rattle.graph.specs.Arranged.{Labelled, SlicesIn}
 use Rattle.graph.specs.SliceLaws.{port-of, of-port, first-member}
 use Rattle.graph.specs.Searched.{connectionsOf, floorOf, PeriodIn, BlockIn}
 use Rattle.specification.specs.Analysed.{FieldsFit}
 use Rattle.results.specs.Kept.{componentAt, bAt, startAt, TableNumbers, timingOf}
-use Rattle.analysis.specs.Timed.{Kept, TimedIn, TimedBelow}
+use Rattle.analysis.specs.Timed.{Kept, TimedIn, TimedBelow, PeriodsBelow, SomeNoLeast}
 
 -- starts that agree on the component's ports are the least together
 least-same : {t : Table} {c a b : ℕ} {S T : ℕ → ℕ} (w : ℕ → ℕ) → WellFormed t → ((p : ℕ) → PortIn t c p → S p ≡ T p)
@@ -32,6 +32,14 @@ least-same {t} w formed same h = record {
   least = λ U m p i. omega (arith, h .least U m p i, same p i);
 }
 
+-- what holds of the components below c, and of c, holds of those below c + 1
+each-next : {t : Table} {c : ℕ} {P : ℕ → Type 0} → ((d : ℕ) → IsComponent t d → d < c → P d) → (IsComponent t c → P c)
+    → (d : ℕ) → IsComponent t d → d < c + 1 → P d
+each-next {t} {c} {P} below at d i m = ⊎-elim
+    (λ (e : d ≡ c). rw e (at (rw e at i)))
+    (λ (l : d < c). below d i l)
+    (eq-or-lt-of-le (omega arith))
+
 module _ {t : Table} {labels weights : List ℕ} (l : Labelled t labels weights) where
   pub small-weights : SmallWeights t (λ p. getD weights p 0)
   small-weights = record { weights = l .weighed .are; small = l .weighed .small }
@@ -40,13 +48,7 @@ module _ {t : Table} {labels weights : List ℕ} (l : Labelled t labels weights)
   timed-none long = record { long = long; each = λ c i h. absurd (omega arith) }
 
   pub timed-skip : {kept : List ℕ} {c : ℕ} → ¬ IsComponent t c → TimedBelow t weights kept c → TimedBelow t weights kept (c + 1)
-  timed-skip {c = c} f h = record {
-    long = h .long;
-    each = λ d i m. ⊎-elim
-        (λ (e : d ≡ c). absurd (f (rw e at i)))
-        (λ (m : d < c). h .each d i m)
-        (eq-or-lt-of-le (omega arith));
-  }
+  timed-skip f h = record { long = h .long; each = each-next (h .each) (λ i. absurd (f i)) }
 
   module _ {c : ℕ} {members numbers starts kept kept′ : List ℕ} {a-b : Fraction} (s : SlicesIn t labels c members numbers)
       (k : Kept members a-b starts kept kept′) where
@@ -84,26 +86,55 @@ module _ {t : Table} {labels weights : List ℕ} (l : Labelled t labels weights)
     pub timed-next : IsComponent t c → PeriodIn t weights c a-b starts → TimedBelow t weights kept c → TimedBelow t weights kept′ (c + 1)
     timed-next component p h = record {
       long = k .same-length ∙ h .long;
-      each = λ d i m. ⊎-elim
-          (λ (e : d ≡ c). rw e (kept-timed component p))
-          (λ (m : d < c). other-timed (λ e. omega (arith, e)) (h .each d i m))
-          (eq-or-lt-of-le (omega arith));
+      each = each-next (λ d i m. other-timed (λ e. omega (arith, e)) (h .each d i m)) (λ i. kept-timed component p);
     }
 
-  -- the lowest component without a period
-  pub timed-blocked : {c : ℕ} {r : Search} {numbers kept : List ℕ} → IsComponent t c → TimedBelow t weights kept c → BlockIn t weights c r numbers
+  -- ---- periods, whether least or not
+  pub periods-none : PeriodsBelow t weights 0
+  periods-none = record { each = λ c i h. absurd (omega arith) }
+
+  pub periods-skip : {c : ℕ} → ¬ IsComponent t c → PeriodsBelow t weights c → PeriodsBelow t weights (c + 1)
+  periods-skip f h = record { each = each-next (h .each) (λ i. absurd (f i)) }
+
+  pub periods-next : {c : ℕ} → HasPeriod (graphIn t (λ p. getD weights p 0) c) → PeriodsBelow t weights c → PeriodsBelow t weights (c + 1)
+  periods-next p h = record { each = each-next (h .each) (λ i. p) }
+
+  -- a least period is one
+  pub has-period : {c : ℕ} {a-b : Fraction} {starts : List ℕ} → PeriodIn t weights c a-b starts → HasPeriod (graphIn t (λ p. getD weights p 0) c)
+  has-period {a-b = a-b} h = record {
+    a = a-b .num;
+    b = a-b .den;
+    possible = record {
+      above-zero = h .period .above-zero;
+      over = h .period .over;
+      rates = h .period .serves .rates;
+      start = _;
+      meets = h .least .meets;
+    };
+  }
+
+  -- a floor and a block of component c, where every one below has a period
+  pub no-period : {c : ℕ} {r : Search} {numbers : List ℕ} → IsComponent t c → PeriodsBelow t weights c → BlockIn t weights c r numbers
       → NoPeriod t (floorOf numbers (r .limit) (r .floor)) (connectionsOf numbers (r .block))
-  timed-blocked {c} {r} i h k = record {
+  no-period {c} i h k = record {
     w = λ p. getD weights p 0;
     weights = small-weights;
     c = c;
     component = i;
-    a = r .period .num;
-    b = r .period .den;
-    over = k .over;
-    is-floor = k .is-floor;
-    blocks = k .blocks;
-    lower = λ d j m. let e = h .each d j m in (e .a, e .b, e .period);
+    is-blocked = k .is-blocked;
+    lower = h .each;
+  }
+
+  pub no-least-period : PeriodsBelow t weights (portCount t) → SomeNoLeast t weights → NoLeastPeriod t
+  no-least-period h s = record {
+    w = λ p. getD weights p 0;
+    weights = small-weights;
+    component = λ p. getD labels p 0;
+    components = l .components .each;
+    periods = λ d i. h .each d i (i .a-port .below);
+    c = s .c;
+    is-component = s .component;
+    no-least = s .no-least;
   }
 
   -- ---- every component has its period

@@ -1,13 +1,13 @@
 -- What one component, and then every component, comes to.
 use Prim.Native.Nat.{ℕ, _+_, _*_, _-_, _≤_, _<_}
-use mathlib.Core.Path.{_≡_, refl, _∙_}
+use mathlib.Core.Path.{_≡_, refl, sym, subst, _∙_}
 use mathlib.Core.Logic.{_≢_}
-use mathlib.Core.Bool.{true, false}
+use mathlib.Core.Bool.{Bool, true, false, true≢false}
 use mathlib.Core.List.{List, [], _++_}
 use native.Mathlib.Numerals.{add-one}
 use native.Mathlib.Nat.{pos-of-ne-zero}
 use native.Mathlib.Omega.{arith}
-use lib.ListN.{length, getD, length-append, length-take, length-drop}
+use lib.ListN.{length, getD, length-take, length-drop}
 use Rattle.specification.specs.Bytes.{Written, cycleAnswer}
 use Rattle.specification.specs.Table.{Table, portCount, linkCount}
 use Rattle.rounds.specs.Starts.{row}
@@ -16,27 +16,26 @@ use Rattle.period.specs.Component.{Component}
 use Rattle.period.specs.Edges.{limitsOf, edgesOf, PortNumbers, Readable}
 use Rattle.period.specs.Greatest.{Limited, GreatestLimit}
 use Rattle.period.specs.Idle.{limited}
-use Rattle.period.specs.Search.{SearchResult}
+use Rattle.period.specs.Search.{Ended, SearchResult}
 use Rattle.period.specs.declared.limit.Limit.{Limit}
 use Rattle.period.specs.declared.search.Search.{Search}
+use Rattle.period.specs.declared.search.SearchEnd.{SearchEnd}
+use Rattle.period.specs.declared.search.SearchEnd.the-variants.{Least, NoLeast as EndsWithout, Blocked as EndsBlocked}
+use Rattle.fraction.specs.declared.Fraction.{Fraction}
 use Rattle.specification.specs.Ratios.{IsComponent}
-use Rattle.specification.specs.Answers.{blocked, consistent, records, floorRecord}
-use Rattle.demands.specs.Room.{cycle-record}
+use Rattle.specification.specs.Answers.{blocked, noLeast, consistent, records, floorRecord}
 use Rattle.graph.specs.Arranged.{mostMembers, SlicesIn, Arranged}
 use Rattle.graph.specs.ArrangedLaws.{membersBefore, numbersBefore, part, Inside, member-end, number-end, members-inside, numbers-inside, arranged-slices, few-members, few-numbers}
-use Rattle.graph.specs.Searched.{connectionsOf, floorOf, Searched}
-use Rattle.graph.specs.SearchedLaws.{slices-searched, slices-idle}
+use Rattle.graph.specs.Searched.{connectionsOf, floorOf, PeriodIn, EndedIn, Searched}
+use Rattle.graph.specs.SearchedLaws.{slices-searched, slices-idle, slices-no-least}
 use Rattle.graph.specs.SliceLaws.{port-of, some-component, no-component, first-member, slices-component, slices-readable}
 use Rattle.results.specs.Kept.{TableNumbers, timingOf}
 use Rattle.results.specs.Sizes.{size-is, size-small}
 use Rattle.results.specs.Named.{NamedBlock}
 use Rattle.analysis.specs.Decided.{Decided}
-use Rattle.analysis.specs.Timed.{Members, Kept, TimedBelow, Shown, TimedOrShown, OneTimed, ComponentSlices, TableSlices}
-use Rattle.analysis.proofs.periods.Components.{timed-none, timed-skip, timed-next, timed-blocked, timed-numbers, timed-consistent, timed-fields}
-
--- components below n are timed, and nothing is written
-or-timed : {t : Table} {weights kept : List ℕ} {n : ℕ} (answer : List ℕ) → TimedBelow t weights kept n → TimedOrShown t weights kept answer answer n 0
-or-timed answer h = record { timed = λ e. h; unchanged = λ e. refl; blocked = λ l. absurd (omega arith) }
+use Rattle.analysis.specs.Timed.{Members, Kept, TimedBelow, PeriodsBelow, SomeNoLeast, Shown, OneLeast, OneNoLeast, OneShown, ComponentSlices, TableSlices}
+use Rattle.analysis.proofs.periods.Components.{timed-none, timed-skip, timed-next, periods-none, periods-skip, periods-next, has-period, no-period, no-least-period, timed-numbers, timed-consistent, timed-fields}
+use Rattle.analysis.proofs.Outcomes.{written-none}
 
 -- ---- one component
 -- the row that the last of so many rounds left as it was
@@ -67,62 +66,69 @@ module _ {t : Table} {weights members numbers : List ℕ} (k : ComponentSlices t
   pub readable-of : Readable (t .links) numbers
   readable-of = slices-readable (k .labelled) (k .slices) (k .component)
 
-  -- without connections
-  pub idle : {r : Limit} {kept₀ kept : List ℕ} (answer : List ℕ) → GreatestLimit members limits r → length numbers ≡ 0
-      → Kept members (r .period) [] kept₀ kept
-      → OneTimed t weights (getD members 0 0) kept₀ kept answer answer 0
-  idle answer g none h = record {
-    of = λ below.
-        or-timed answer (timed-next (k .labelled) (k .slices) h (k .component) (slices-idle (k .labelled) (k .slices) (k .component) g none) below);
+  abbrev c : ℕ
+  c = getD members 0 0
+
+  -- a period that is kept
+  one-least : {a-b : Fraction} {starts kept₀ kept : List ℕ} (answer : List ℕ) → PeriodIn t weights c a-b starts → Kept members a-b starts kept₀ kept
+      → OneLeast t weights c kept₀ kept answer answer
+  one-least answer p h = record {
+    timed = timed-next (k .labelled) (k .slices) h (k .component) p;
+    has-period = has-period (k .labelled) p;
+    same-length = h .same-length;
+    unchanged = refl;
   }
 
+  -- without connections
+  module _ {r : Limit} (g : GreatestLimit members limits r) (none : length numbers ≡ 0) where
+    pub idle : {kept₀ kept : List ℕ} (answer : List ℕ) → r .value .num ≢ 0 → Kept members (r .value) [] kept₀ kept → OneLeast t weights c kept₀ kept answer answer
+    idle answer some h = one-least answer (slices-idle (k .labelled) (k .slices) (k .component) g none (pos-of-ne-zero some)) h
+
+    pub idle-without : (kept answer : List ℕ) → r .value .num ≡ 0 → OneNoLeast t weights c kept kept answer answer
+    idle-without kept answer zero =
+        record { no-least = slices-no-least (k .labelled) (k .slices) (k .component) g none zero; same-length = refl; unchanged = refl }
+
   module _ {work : List ℕ} {r : Search} (e : SearchResult members limits edges r work) where
-    searched : Searched t weights (getD members 0 0) r numbers (row work (r .rounds - 1))
+    searched : Searched t weights c r numbers (row work (r .rounds - 1))
     searched = slices-searched (k .labelled) (k .slices) (k .component) e
 
+    -- what is known by how the search ended. `rw` would change r itself
+    ended-in : {end : SearchEnd} → r .end ≡ end → EndedIn t weights c r numbers (row work (r .rounds - 1)) end
+    ended-in found = subst (λ (x : SearchEnd). EndedIn t weights c r numbers (row work (r .rounds - 1)) x) found (searched .ended)
+
     -- the row of the starts lies within the work
-    pub row-within : r .settled ≡ true → 64 * length members + 64 ≤ length work → RowWithin work (r .rounds)
+    pub row-within : {a-b : Fraction} → r .end ≡ Least a-b → 64 * length members + 64 ≤ length work → RowWithin work (r .rounds)
     row-within found room =
-        let run = e .settled found .rounds in
+        let run = subst (λ (x : SearchEnd). Ended members limits edges r work x) found (e .ended) .rounds in
         record { some = omega (arith, run .is); few = omega (arith, run .within, component-of .few-ports); within = omega (arith, run .within) }
 
-    pub settled : {kept₀ kept : List ℕ} (answer : List ℕ) → r .settled ≡ true
-        → Kept members (r .period) (part work (64 * (r .rounds - 1)) (64 * (r .rounds - 1) + 64)) kept₀ kept
-        → OneTimed t weights (getD members 0 0) kept₀ kept answer answer 0
-    settled answer found h = record {
-      of = λ below. or-timed answer (timed-next (k .labelled) (k .slices) (rw width at h) (k .component) (searched .settled found) below);
-    }
+    pub settled : {a-b : Fraction} {kept₀ kept : List ℕ} (answer : List ℕ) → r .end ≡ Least a-b
+        → Kept members a-b (part work (64 * (r .rounds - 1)) (64 * (r .rounds - 1) + 64)) kept₀ kept
+        → OneLeast t weights c kept₀ kept answer answer
+    settled answer found h = one-least answer (ended-in found) (rw width at h)
       where
         width : 64 * (r .rounds - 1) + 64 - 64 * (r .rounds - 1) ≡ 64
         width = omega arith
 
-    pub shown : {kept answer answer′ : List ℕ} {n : ℕ} → r .settled ≡ false
+    pub without : (kept answer : List ℕ) → r .end ≡ EndsWithout → OneNoLeast t weights c kept kept answer answer
+    without kept answer found = record { no-least = ended-in found; same-length = refl; unchanged = refl }
+
+    pub shown : {answer answer′ : List ℕ} {n : ℕ} (kept : List ℕ) → r .end ≡ EndsBlocked
         → Written (floorRecord (floorOf numbers (r .limit) (r .floor)) ++ cycleAnswer (connectionsOf numbers (r .block))) answer answer′ n
-        → OneTimed t weights (getD members 0 0) kept kept answer answer′ n
-    shown {n = n} none w =
-        let some : 0 < n = omega (
-          arith,
-          w .counted,
-          length-append (floorRecord (floorOf numbers (r .limit) (r .floor))) (cycleAnswer (connectionsOf numbers (r .block))),
-          cycle-record (connectionsOf numbers (r .block)),
-        ) in
-        record {
-          of = λ below. record {
-            timed = λ z. absurd (omega arith);
-            unchanged = λ z. absurd (omega arith);
-            blocked = λ h. record {
-              floor = floorOf numbers (r .limit) (r .floor);
-              block = connectionsOf numbers (r .block);
-              no-period = timed-blocked (k .labelled) (k .component) below (searched .blocked none);
-              records-are = w;
-            };
-          };
-        }
+        → OneShown t weights c kept kept answer answer′ n
+    shown kept found w = record {
+      of = λ below. record {
+        floor = floorOf numbers (r .limit) (r .floor);
+        block = connectionsOf numbers (r .block);
+        no-period = no-period (k .labelled) (k .component) below (ended-in found);
+        records-are = w;
+      };
+    }
 
     -- the floor and the block that are found can be named
-    pub named : r .settled ≡ false → NamedBlock numbers r
-    named none =
-        let h = searched .blocked none in
+    pub named : r .end ≡ EndsBlocked → NamedBlock numbers r
+    named found =
+        let h = ended-in found in
         record {
           limit = λ lower. record { within = h .limit-within; named = h .limit-steps lower };
           block = record { within = h .block-within; named = h .block-steps };
@@ -146,10 +152,14 @@ module _ {t : Table} {labels members member-ends numbers number-ends : List ℕ}
   few-numbers-from : length (part numbers number (getD number-ends c 0)) ≤ linkCount t
   few-numbers-from = rw (number-is, number-end a low) (few-numbers a low)
 
--- ---- every component: those below c are timed, nothing is written, and the next begins at these places
-pub record Turns (t : Table) (weights members numbers : List ℕ) (ends : List (List ℕ)) (room : ℕ) (kept answer₀ answer : List ℕ) (member number c : ℕ) : Type 0 where
+-- ---- every component: those below c have periods, and as long as each has a least they are timed; nothing is written, and the next begins
+-- at these places
+pub record Turns (t : Table) (weights members numbers : List ℕ) (ends : List (List ℕ)) (room : ℕ) (kept answer₀ answer : List ℕ) (least : Bool) (member number c : ℕ) : Type 0 where
   pub slices : TableSlices t weights members numbers ends room
-  pub timed : TimedBelow t weights kept c
+  pub long : length kept ≡ 256
+  pub periods : PeriodsBelow t weights c
+  pub timed : least ≡ true → TimedBelow t weights kept c
+  pub some : least ≡ false → SomeNoLeast t weights
   pub unchanged : answer ≡ answer₀
   pub within : c ≤ portCount t
   pub member-is : member ≡ membersBefore t (slices .labels) c
@@ -158,19 +168,22 @@ pub record Turns (t : Table) (weights members numbers : List ℕ) (ends : List (
 pub turns-first : {t : Table} {weights members numbers kept : List ℕ} {ends : List (List ℕ)} {room : ℕ} (answer : List ℕ)
     → TableSlices t weights members numbers ends room
     → length kept ≡ 256
-    → Turns t weights members numbers ends room kept answer answer 0 0 0
+    → Turns t weights members numbers ends room kept answer answer true 0 0 0
 unfolding ordered
 turns-first answer a long = record {
   slices = a;
-  timed = timed-none (a .labelled) long;
+  long = long;
+  periods = periods-none (a .labelled);
+  timed = λ e. timed-none (a .labelled) long;
+  some = λ e. absurd (true≢false e);
   unchanged = refl;
   within = omega arith;
   member-is = refl;
   number-is = refl;
 }
 
-module _ {t : Table} {weights members numbers : List ℕ} {ends : List (List ℕ)} {room : ℕ} {kept answer₀ answer : List ℕ} {member number c : ℕ}
-    (s : Turns t weights members numbers ends room kept answer₀ answer member number c) (low : c < portCount t) where
+module _ {t : Table} {weights members numbers : List ℕ} {ends : List (List ℕ)} {room : ℕ} {kept answer₀ answer : List ℕ} {least : Bool} {member number c : ℕ}
+    (s : Turns t weights members numbers ends room kept answer₀ answer least member number c) (low : c < portCount t) where
   abbrev a : TableSlices t weights members numbers ends room
   a = s .slices
 
@@ -220,60 +233,106 @@ module _ {t : Table} {weights members numbers : List ℕ} {ends : List (List ℕ
         let links = few-numbers-from (a .arranged) low (s .member-is) (s .number-is) in
         omega (arith, ports, links, a .enough)
 
-    module _ {kept′ answer′ : List ℕ} {r : ℕ}
-        (one : OneTimed t weights (getD (part members member (getD member-ends c 0)) 0 0) kept kept′ answer answer′ r) where
-      this : OneTimed t weights c kept kept′ answer answer′ r
-      this = rw first-is at one
+    -- what holds behind component c
+    abbrev Next : (kept′ answer′ : List ℕ) → Bool → Type 0
+    Next kept′ answer′ b = Turns t weights members numbers ends room kept′ answer₀ answer′ b (getD member-ends c 0) (getD number-ends c 0) (c + 1)
 
-      pub turns-next : r ≡ 0 → Turns t weights members numbers ends room kept′ answer₀ answer′ (getD member-ends c 0) (getD number-ends c 0) (c + 1)
-      turns-next none = record {
+    -- it has a least period
+    pub turns-least : {kept′ answer′ : List ℕ} → OneLeast t weights (getD (part members member (getD member-ends c 0)) 0 0) kept kept′ answer answer′ → Next kept′ answer′ least
+    turns-least {kept′} {answer′} one =
+        let this : OneLeast t weights c kept kept′ answer answer′ = rw first-is at one in
+        record {
+          slices = a;
+          long = this .same-length ∙ s .long;
+          periods = periods-next (a .labelled) (this .has-period) (s .periods);
+          timed = λ e. this .timed (s .timed e);
+          some = s .some;
+          unchanged = this .unchanged ∙ s .unchanged;
+          within = omega arith;
+          member-is = next-member;
+          number-is = next-number;
+        }
+
+    -- it has periods but no least
+    pub turns-no-least : {kept′ answer′ : List ℕ} → OneNoLeast t weights (getD (part members member (getD member-ends c 0)) 0 0) kept kept′ answer answer′ → Next kept′ answer′ false
+    turns-no-least {kept′} {answer′} one =
+        let this : OneNoLeast t weights c kept kept′ answer answer′ = rw first-is at one in
+        record {
+          slices = a;
+          long = this .same-length ∙ s .long;
+          periods = periods-next (a .labelled) (this .no-least .some) (s .periods);
+          timed = λ e. absurd (true≢false (sym e));
+          some = λ e. record { c = c; component = names; no-least = this .no-least };
+          unchanged = this .unchanged ∙ s .unchanged;
+          within = omega arith;
+          member-is = next-member;
+          number-is = next-number;
+        }
+
+    -- it has none
+    pub turns-shown : {kept′ answer′ : List ℕ} {r : ℕ} → OneShown t weights (getD (part members member (getD member-ends c 0)) 0 0) kept kept′ answer answer′ r
+        → Decided t answer₀ answer′ (record { number = 15; place = 0; written = r })
+    turns-shown {kept′} {answer′} {r} one =
+        let this : OneShown t weights c kept kept′ answer answer′ r = rw first-is at one in
+        let h : Shown t answer₀ answer′ r = rw (← s .unchanged) (this .of (s .periods)) in
+        record {
+          answer = blocked (h .floor) (h .block);
+          right = h .no-period;
+          number-is = refl;
+          place-is = refl;
+          records-are = h .records-are;
+          fits = tt;
+        }
+
+  -- port c names no component
+  pub turns-skip : getD member-ends c 0 ≤ member
+      → Turns t weights members numbers ends room kept answer₀ answer least (getD member-ends c 0) (getD number-ends c 0) (c + 1)
+  turns-skip none =
+      let not-one = no-component (a .labelled) slices-part (omega (arith, part-length)) in
+      record {
         slices = a;
-        timed = this .of (s .timed) .timed none;
-        unchanged = this .of (s .timed) .unchanged none ∙ s .unchanged;
+        long = s .long;
+        periods = periods-skip (a .labelled) not-one (s .periods);
+        timed = λ e. timed-skip (a .labelled) not-one (s .timed e);
+        some = s .some;
+        unchanged = s .unchanged;
         within = omega arith;
         member-is = next-member;
         number-is = next-number;
       }
 
-      pub turns-shown : r ≢ 0 → Decided t answer₀ answer′ (record { number = 15; place = 0; written = r })
-      turns-shown some =
-          let h : Shown t answer₀ answer′ r = rw (← s .unchanged) (this .of (s .timed) .blocked (pos-of-ne-zero some)) in
-          record {
-            answer = blocked (h .floor) (h .block);
-            right = h .no-period;
-            number-is = refl;
-            place-is = refl;
-            records-are = h .records-are;
-            fits = tt;
-          }
+-- behind the last component
+module _ {t : Table} {weights members numbers : List ℕ} {ends : List (List ℕ)} {room : ℕ} {kept answer₀ answer : List ℕ} {least : Bool} {member number c : ℕ}
+    (s : Turns t weights members numbers ends room kept answer₀ answer least member number c) (all : portCount t ≤ c) where
+  last : portCount t ≡ c
+  last = omega (arith, s .within)
 
-  -- port c names no component
-  pub turns-skip : getD member-ends c 0 ≤ member → Turns t weights members numbers ends room kept answer₀ answer (getD member-ends c 0) (getD number-ends c 0) (c + 1)
-  turns-skip none = record {
-    slices = a;
-    timed = timed-skip (a .labelled) (no-component (a .labelled) slices-part (omega (arith, part-length))) (s .timed);
-    unchanged = s .unchanged;
-    within = omega arith;
-    member-is = next-member;
-    number-is = next-number;
-  }
-
--- every component is timed
-module _ {t : Table} {weights members numbers : List ℕ} {ends : List (List ℕ)} {room : ℕ} {kept answer₀ answer : List ℕ} {member number c : ℕ}
-    (s : Turns t weights members numbers ends room kept answer₀ answer member number c) (all : portCount t ≤ c) where
-  timed-all : TimedBelow t weights kept (portCount t)
-  timed-all = let e : portCount t ≡ c = omega (arith, s .within) in rw e (s .timed)
-
-  pub all-numbers : TableNumbers t weights kept
-  all-numbers = timed-numbers (s .slices .labelled) timed-all
-
-  pub turns-all : {after : List ℕ} {written : ℕ} → Written (records t (consistent (timingOf t weights kept))) answer after written
-      → Decided t answer₀ after (record { number = 0; place = 0; written = written })
-  turns-all w = record {
-    answer = consistent (timingOf t weights kept);
-    right = timed-consistent (s .slices .labelled) timed-all (λ k i. size-is all-numbers i);
+  -- some component has no least
+  pub turns-without : least ≡ false → Decided t answer₀ answer (record { number = 17; place = 0; written = 0 })
+  turns-without e = record {
+    answer = noLeast;
+    right = no-least-period (s .slices .labelled) (rw last (s .periods)) (s .some e);
     number-is = refl;
     place-is = refl;
-    records-are = rw (← s .unchanged) w;
-    fits = timed-fields (s .slices .labelled) timed-all (λ k i. size-small all-numbers i);
+    records-are = rw (s .unchanged) (written-none answer₀);
+    fits = tt;
   }
+
+  -- each has one
+  module _ (e : least ≡ true) where
+    timed-all : TimedBelow t weights kept (portCount t)
+    timed-all = rw last (s .timed e)
+
+    pub all-numbers : TableNumbers t weights kept
+    all-numbers = timed-numbers (s .slices .labelled) timed-all
+
+    pub turns-all : {after : List ℕ} {written : ℕ} → Written (records t (consistent (timingOf t weights kept))) answer after written
+        → Decided t answer₀ after (record { number = 0; place = 0; written = written })
+    turns-all w = record {
+      answer = consistent (timingOf t weights kept);
+      right = timed-consistent (s .slices .labelled) timed-all (λ k i. size-is all-numbers i);
+      number-is = refl;
+      place-is = refl;
+      records-are = rw (← s .unchanged) w;
+      fits = timed-fields (s .slices .labelled) timed-all (λ k i. size-small all-numbers i);
+    }

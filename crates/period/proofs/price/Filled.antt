@@ -39,8 +39,7 @@ module _ {edges costs₀ : List ℕ} {n a b : ℕ} where
         ticks-back = rw (e .ticks-back) (p .small .ticks-back k is-edge);
         events-forward = rw (e .events-forward) (p .small .events-forward k is-edge);
         events-back = rw (e .events-back) (p .small .events-back k is-edge);
-        small-a = p .small-a;
-        small-b = p .small-b;
+        small = p .small-period;
       }
 
   pub filled-on : {costs : List ℕ} {k : ℕ} {r : Edge} {cost : Ticks} → Pricing edges a b costs₀ → Filled edges n a b costs₀ costs k → k < n

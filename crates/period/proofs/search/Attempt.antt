@@ -31,8 +31,7 @@ module _ {edges : List ℕ} {m a b n : ℕ} {work steps : List ℕ} (y : Trying 
   tried-pricing = record {
     small = y .small-edges;
     room = omega (arith, y .counted, y .work-room, long);
-    small-a = y .small-a;
-    small-b = y .small-b;
+    small-period = y .small-period;
   }
 
   module _ {costs : List ℕ} (p : PricesMade edges a b (behind work n) costs) where

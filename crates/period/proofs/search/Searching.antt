@@ -1,35 +1,39 @@
 -- What a turn of the search keeps, and what it ends with.
 use Prim.Native.Nat.{ℕ, _+_, _*_, _-_, _/_, _≤_, _<_}
-use mathlib.Core.Path.{_≡_, refl, sym, _∙_}
-use mathlib.Core.Bool.{true, false, true≢false}
+use mathlib.Core.Path.{_≡_, refl, ap, _∙_}
+use mathlib.Core.Logic.{_⊎_, inl, inr}
 use mathlib.Core.List.{List, []}
 use native.Mathlib.Omega.{arith}
 use native.Mathlib.Nat.{mul-le-mul-right}
 use lib.ListN.{length, getD, drop, length-take}
+use borrow.Author.Tests.{eq-eqb, ne-eqb}
 use Rattle.fraction.specs.Lowest.{lowestTerms}
 use Rattle.fraction.specs.declared.Fraction.{Fraction}
-use Rattle.specification.specs.Periods.{gain, loss, LeastStarts}
+use Rattle.specification.specs.Periods.{gain, loss, LeastStarts, RateLimit, CycleLimit}
 use Rattle.rounds.specs.Walks.{PositiveCycle}
-use Rattle.period.specs.Limits.{E⁺, E⁻, D⁺, D⁻, falling-gains, rate-below}
-use Rattle.period.specs.Component.{graphOf, Component, SmallEdges, mostRate}
+use Rattle.period.specs.Limits.{E⁺, E⁻, D⁺, D⁻, falling-gains}
+use Rattle.period.specs.Component.{graphOf, Component, SmallEdges, justAbove}
 use Rattle.rounds.specs.Costs.{Priced, mostCost}
 use Rattle.rounds.specs.StartsLaws.{starts-bound}
 use Rattle.rounds.specs.Starts.{Stopped, starts as startsAfter, row}
 use Rattle.rounds.specs.Back.{FoundCycle, edgesOf}
 use Rattle.period.specs.Prices.{pricesOf}
 use Rattle.period.specs.PricesLaws.{prices-small, prices-enclosed, prices-cycle, prices-settled, cycle-edges}
-use Rattle.period.specs.Greatest.{GreatestLimit}
+use Rattle.period.specs.Greatest.{RateFloor, GreatestLimit}
 use Rattle.period.specs.Sums.{Summing, SumsOf}
-use Rattle.period.specs.Search.{WithinSteps, RoundsRun, mostStart, SearchResult}
+use Rattle.period.specs.Search.{cycleOf, WithinSteps, firstTried, settledEnd, RoundsRun, mostStart, FoundPeriod, Ended, SearchResult}
 use Rattle.period.specs.Try.{Trying}
 use Rattle.period.proofs.search.Falls.{left}
-use Rattle.period.proofs.search.Floored.{Floored, floored-next, floored-falls, floored-blocks, floored-period}
+use Rattle.period.proofs.search.Floored.{TriedLimit, TriedAt, Floored, floored-small, floored-next, floored-falls, floored-blocks, floored-period, floored-no-least}
 use Rattle.rounds.specs.declared.back.Part.{Part}
 use Rattle.period.specs.declared.cycle.Sums.{Sums}
 use Rattle.period.specs.declared.limit.Limit.{Limit}
 use Rattle.period.specs.declared.search.Cycle.{Cycle}
-use Rattle.period.specs.declared.search.Floor.{Floor}
-use Rattle.period.specs.declared.search.Floor.the-variants.{Rate, Lower}
+use Rattle.period.specs.declared.limit.Floor.{Floor}
+use Rattle.period.specs.declared.limit.Floor.the-variants.{Rate, Lower, Zero}
+use Rattle.period.specs.declared.search.Search.{Search}
+use Rattle.period.specs.declared.search.SearchEnd.{SearchEnd}
+use Rattle.period.specs.declared.search.SearchEnd.the-variants.{Blocked as EndsBlocked}
 
 small-edges : {ports limits edges : List ℕ} → Component ports limits edges → SmallEdges (graphOf [] [] edges)
 small-edges k = record {
@@ -39,7 +43,7 @@ small-edges k = record {
   events-back = k .small-edges .events-back;
 }
 
--- the buffer has room, and a/b is a limit that no smaller one serves
+-- the buffer has room, and what is known of the a/b that is tried
 pub record Searching (ports limits edges numbers work₀ work : List ℕ) (period : Fraction) (floor : Floor) (limit : Cycle) : Type 0 where
   pub component : Component ports limits edges
   pub counted : length edges / 6 ≡ length numbers
@@ -48,37 +52,55 @@ pub record Searching (ports limits edges numbers work₀ work : List ℕ) (perio
   pub floored : Floored (graphOf ports limits edges) period floor limit
   pub within : WithinSteps limit
 
-pub searching-first : {ports limits edges numbers work : List ℕ} {first : Limit} (limit : Cycle) → Component ports limits edges → length edges / 6 ≡ length numbers
+-- the first a/b: the greatest rate limit, or just above zero
+first-floored : {ports limits edges : List ℕ} {first : Limit} (limit : Cycle) → Component ports limits edges → GreatestLimit ports limits first
+    → Floored (graphOf ports limits edges) (firstTried first) (first .floor) limit
+unfolding firstTried
+first-floored {ports} {limits} {edges} {first} limit k h = by (first .floor) (h .is-floor)
+  where
+    by : (x : Floor) → RateFloor ports limits x (first .value) → Floored (graphOf ports limits edges) (firstTried first) x limit
+    by (Rate p) t = rw (ne-eqb (first .value .num) 0 (λ e. omega (arith, t .above-zero))) (record {
+      over = h .over;
+      rates = h .greatest;
+      tried = record {
+        above-zero = t .above-zero;
+        lowest = h .lowest;
+        small = record { num = omega (arith, h .small-num); den = omega (arith, h .small-den) };
+        is-limit = record { a-port = t .limit .a-port; rated = t .limit .rated; exact = t .limit .exact };
+      };
+    })
+    by Lower t = absurd t
+    by Zero t = rw (eq-eqb (first .value .num) 0 (ap (λ (x : Fraction). x .num) (t .zero))) (record {
+      over = omega arith;
+      rates = λ p m. omega (arith, k .small-limits .unrated p m (t .is-zero .unrated p m));
+      tried = record { is-zero = record { unrated = t .is-zero .unrated }; num = refl; den = refl };
+    })
+
+pub searching-first : {ports limits edges numbers work : List ℕ} {first : Limit} {period : Fraction} (limit : Cycle) → Component ports limits edges
+    → length edges / 6 ≡ length numbers
     → 64 * length ports + 64 + 4 * length numbers ≤ length work
-    → GreatestLimit ports limits first → WithinSteps limit
-    → Searching ports limits edges numbers work work (first .period) (Rate (first .port)) limit
-searching-first {first = first} limit k e r h within = record {
+    → GreatestLimit ports limits first → period ≡ firstTried first → WithinSteps limit
+    → Searching ports limits edges numbers work work period (first .floor) limit
+searching-first limit k e r h p within = record {
   component = k;
   counted = e;
   room = r;
   same-length = refl;
-  floored = record {
-    above-zero = h .above-zero;
-    over = h .over;
-    lowest = h .lowest;
-    small-num = omega (arith, h .small-num);
-    small-den = omega (arith, h .small-den);
-    rates = h .greatest;
-    low = λ a b s over. rate-below (k .small-limits .den-some (first .port) (h .limit .a-port)) (record { a-port = h .limit .a-port; exact = h .limit .exact }) s;
-    shown = record { a-port = h .limit .a-port; exact = h .limit .exact };
-  };
+  floored = rw p (first-floored limit k h);
   within = within;
 }
 
 module _ {ports limits edges numbers work₀ work : List ℕ} {period : Fraction} {floor : Floor} {limit : Cycle}
     (s : Searching ports limits edges numbers work₀ work period floor limit) where
+  priced : Priced (pricesOf edges (period .num) (period .den))
+  priced = prices-small (s .component) (floored-small (s .floored) .small)
+
   pub searching-tries : {steps : List ℕ} → length steps ≡ 64 → Trying edges (length numbers) (period .num) (period .den) (length ports) work steps
   searching-tries long = record {
     counted = s .counted;
     small-edges = small-edges (s .component);
-    small-a = s .floored .small-num;
-    small-b = s .floored .small-den;
-    priced = prices-small (s .component) (s .floored .small-num) (s .floored .small-den);
+    small-period = floored-small (s .floored) .small;
+    priced = priced;
     enclosed = prices-enclosed (s .component) (period .num) (period .den);
     some = s .component .some-port;
     few = s .component .few-ports;
@@ -86,39 +108,53 @@ module _ {ports limits edges numbers work₀ work : List ℕ} {period : Fraction
     steps-room = omega arith;
   }
 
-  -- the rounds stopped: a/b is the period
-  pub searching-settled : {work′ : List ℕ} {r : ℕ} (block : Cycle) → Stopped (pricesOf edges (period .num) (period .den)) work′ (length ports) r
-      → SearchResult ports limits edges (record { settled = true; period = period; floor = floor; limit = limit; block = block; rounds = r + 1 }) work′
-  searching-settled {work′} {r} block h = record {
-    settled = λ yes. record {
-      period = floored-period (s .floored) least;
-      shown = s .floored .shown;
-      limit-within = s .within;
-      least = least;
-      rounds = run;
-      small = record { num = s .floored .small-num; den = s .floored .small-den };
-      small-starts = small;
-    };
-    blocked = λ no. absurd (true≢false no);
-  }
+  -- the rounds stopped: a/b is the period or, above the floor zero, there is no least
+  pub searching-settled : {work′ : List ℕ} {r : ℕ} {end : SearchEnd} (block : Cycle) → Stopped (pricesOf edges (period .num) (period .den)) work′ (length ports) r
+      → end ≡ settledEnd floor period
+      → SearchResult ports limits edges (record { end = end; floor = floor; limit = limit; block = block; rounds = r + 1 }) work′
+  searching-settled {work′} {r} block h e = rw e (record { ended = by floor (s .floored .tried) })
     where
       cs : List ℕ
       cs = pricesOf edges (period .num) (period .den)
-
-      priced : Priced cs
-      priced = prices-small (s .component) (s .floored .small-num) (s .floored .small-den)
 
       made : row work′ (r + 1 - 1) ≡ startsAfter cs r
       made = let e : r + 1 - 1 ≡ r = omega arith in rw e (h .kept .rows-are r (omega arith))
 
       least : LeastStarts (graphOf ports limits edges) (period .num) (period .den) (λ p. getD (row work′ (r + 1 - 1)) p 0)
-      least = rw made (prices-settled (s .component) (period .num) (period .den) r priced (h .still))
+      least = rw made (prices-settled (s .component) (period .num) (period .den) r (h .still))
 
       small : (p : ℕ) → getD (row work′ (r + 1 - 1)) p 0 ≤ mostStart
       small p = rw made (omega (arith, starts-bound cs priced r p, mul-le-mul-right mostCost (h .within), mul-le-mul-right mostCost (s .component .few-ports)))
 
       run : RoundsRun cs (row work′ (r + 1 - 1)) (length ports) (r + 1)
       run = record { changing = r; is = omega arith; within = omega (arith, h .within); moved = h .moved; still = h .still; made = made }
+
+      result : Floor → Search
+      result x = record { end = settledEnd x period; floor = x; limit = limit; block = block; rounds = r + 1 }
+
+      found : (x : Floor) → TriedLimit (graphOf ports limits edges) x limit (period .num) (period .den)
+          → ((p : ℕ) × RateLimit (graphOf ports limits edges) p (period .num) (period .den))
+          ⊎ ((path : List ℕ) × CycleLimit (graphOf ports limits edges) path (period .num) (period .den))
+          → FoundPeriod ports limits edges (result x) period (row work′ (r + 1 - 1))
+      found x t l = record {
+        period = floored-period (s .floored) t l least;
+        shown = t .is-limit;
+        limit-within = s .within;
+        least = least;
+        rounds = run;
+        small = t .small;
+        small-starts = small;
+      }
+
+      by : (x : Floor) → TriedAt (graphOf ports limits edges) x limit (period .num) (period .den) → Ended ports limits edges (result x) work′ (settledEnd x period)
+      by (Rate p) t = found (Rate p) t (inl (p, t .is-limit))
+      by Lower t = found Lower t (inr (cycleOf limit, t .is-limit))
+      by Zero t = record {
+        no-least = floored-no-least (s .component) (s .floored) t least;
+        floor-is = refl;
+        is-zero = t .is-zero;
+        rounds = rw (t .num, t .den) at run;
+      }
 
   -- a cycle that is positive at a/b
   module _ {steps : List ℕ} {part : Part} (found : FoundCycle (pricesOf edges (period .num) (period .den)) steps part) where
@@ -139,17 +175,10 @@ module _ {ports limits edges numbers work₀ work : List ℕ} {period : Fraction
       -- D zero or more: it blocks
       pub searching-blocked : {work′ : List ℕ} → length steps ≡ 64 → sums .events .1 ≤ sums .events .0
           → SearchResult ports limits edges
-          (record { settled = false; period = period; floor = floor; limit = limit; block = record { steps = steps; part = part }; rounds = length ports }) work′
+          (record { end = EndsBlocked; floor = floor; limit = limit; block = record { steps = steps; part = part }; rounds = length ports }) work′
       searching-blocked long rises = record {
-        settled = λ yes. absurd (true≢false (sym yes));
-        blocked = λ no. record {
-          above-zero = s .floored .above-zero;
-          over = s .floored .over;
-          lowest = s .floored .lowest;
-          small = record { num = s .floored .small-num; den = s .floored .small-den };
-          shown = s .floored .shown;
-          low = s .floored .low;
-          block = floored-blocks (s .component .among) (s .component .few-ports) (s .component .small-edges) (s .floored) positive (omega (arith, m));
+        ended = record {
+          is-blocked = floored-blocks (s .component .among) (s .component .few-ports) (s .component .small-edges) (s .floored) positive (omega (arith, m));
           limit-within = s .within;
           block-within = searching-within long;
           rounds = refl;
@@ -168,7 +197,7 @@ module _ {ports limits edges numbers work₀ work : List ℕ} {period : Fraction
           lowest-limit : period′ ≡ lowestTerms (E⁺ (graphOf ports limits edges) (edgesOf steps part) - E⁻ (graphOf ports limits edges) (edgesOf steps part)) (D⁻ (graphOf ports limits edges) (edgesOf steps part) - D⁺ (graphOf ports limits edges) (edgesOf steps part))
           lowest-limit = rw (← m .ticks-forward, ← m .ticks-back, ← m .events-forward, ← m .events-back) e
 
-          pub searching-falls : left mostRate (period′ .num) (period′ .den) < left mostRate (period .num) (period .den)
+          pub searching-falls : left justAbove (period′ .num) (period′ .den) < left justAbove (period .num) (period .den)
           searching-falls = floored-falls (s .component .among) (s .component .few-ports) (s .component .small-edges) (s .floored) positive falling lowest-limit
 
           pub searching-next : {work′ : List ℕ} → length steps ≡ 64 → length work′ ≡ length work

@@ -7,10 +7,10 @@ use lib.ListN.{length, getD, drop, length-map, length-take}
 use Rattle.specification.specs.Bytes.{bytes, Written, encode, cycleAnswer, floorAnswer}
 use Rattle.period.specs.Search.{cycleOf}
 use Rattle.period.specs.declared.search.Cycle.{Cycle}
-use Rattle.period.specs.declared.search.Floor.{Floor}
-use Rattle.period.specs.declared.search.Floor.the-variants.{Rate, Lower}
+use Rattle.period.specs.declared.limit.Floor.{Floor}
+use Rattle.period.specs.declared.limit.Floor.the-variants.{Rate, Lower, Zero}
 use Rattle.period.specs.declared.search.Search.{Search}
-use Rattle.specification.specs.Answers.{floorRecord}
+use Rattle.specification.specs.Answers.{zeroFloorPort, floorRecord}
 use Rattle.demands.specs.Room.{cycle-record}
 use Rattle.graph.specs.Searched.{connectionsOf, floorOf}
 use Rattle.results.specs.Named.{NamedCycle, NamedBlock}
@@ -41,3 +41,4 @@ limit-short {numbers} {s = s} h w = omega (arith, short (s .floor) (h .limit), w
     short : (floor : Floor) → (floor ≡ Lower → NamedCycle numbers (s .limit)) → length (floorRecord (floorOf numbers (s .limit) floor)) ≤ 132
     short (Rate p) k = floor-short p
     short Lower k = cycle-short (k refl)
+    short Zero k = floor-short zeroFloorPort

@@ -46,8 +46,7 @@ module _ {l : Link} {weights kept : List ℕ} (n : BufferNumbers l weights kept)
       ticks-back = n .ticks-back;
       events-forward = omega arith;
       events-back = omega arith;
-      small-a = omega (arith, num-is, n .sender .a-most);
-      small-b = omega (arith, den-is, n .sender .b-most);
+      small = record { sum = omega (arith, num-is, den-is, n .sender .a-most, n .sender .b-most) };
     }
 
     pub event-small : SmallDelay (0, 0) (getD weights (l .from) 0, 0) (period .num) (period .den)
@@ -56,8 +55,7 @@ module _ {l : Link} {weights kept : List ℕ} (n : BufferNumbers l weights kept)
       ticks-back = omega arith;
       events-forward = omega (arith, n .sender .weight-most);
       events-back = omega arith;
-      small-a = delay-small .small-a;
-      small-b = delay-small .small-b;
+      small = delay-small .small;
     }
 
     pub delays : {receiver : Kept} {epsilon event : Ticks}

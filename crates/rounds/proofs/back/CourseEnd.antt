@@ -28,7 +28,7 @@ module _ {cs rows : List ℕ} {n port : ℕ} {steps₀ : List ℕ} (s : EveryRou
       let at = a .marks .placed p i (t .low) (omega arith) in
       let e : i - r - 1 ≡ i - suc r = omega arith in
       let top : i ≤ n = omega (arith, at .below, length-map (t .path) (toOf cs), length-path s t, t .within) in
-      let c = trail-cycle (starts-rows cs (s .fitting .edges) n) (omega arith) (t .trail) (t .simple) (i - r)
+      let c = trail-cycle (starts-rows cs (s .fitting .edges .to-in) n) (omega arith) (t .trail) (t .simple) (i - r)
       (omega (arith, at .from)) (omega (arith, length-path s t)) (rw e (at .there)) in
       let same : take (i - r) (t .path) ≡ take (i - r) (drop r steps) = rw (← t .path-is) (take-take (i - r) (n - r) (drop r steps) (omega arith)) in
       record {

@@ -38,7 +38,7 @@ module _ {cs rows : List ℕ} {n port : ℕ} {steps₀ : List ℕ} (s : EveryRou
     module _ {k : ℕ} (m : Tight cs u p k) where
       grew : (v : ℕ) → u ≡ suc v → startOf cs v (fromOf cs k) < startOf cs u (fromOf cs k)
       grew v z =
-          rw z (trail-grows (starts-rows cs (s .fitting .edges) n) (omega (arith, before)) (rw z at grows) (m .is-edge) (m .into) (rw z at (m .exact)))
+          rw z (trail-grows (starts-rows cs (s .fitting .edges .to-in) n) (omega (arith, before)) (rw z at grows) (m .is-edge) (m .into) (rw z at (m .exact)))
 
       arrives : Arrived cs n port steps₀ (set steps u k) met (fromOf cs k) u
       arrives = let t = c .traced in record {

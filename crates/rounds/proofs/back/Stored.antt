@@ -39,7 +39,7 @@ module _ {cs rows : List ℕ} {n : ℕ} (kept : Kept cs rows n) where
     -- a port that grows has a tight edge into it
     pub tight-behind : n ≤ 64 → 64 * n + 64 ≤ length rows → startOf cs u p < startOf cs (suc u) p → SomeTight cs rows u p
     tight-behind few room grew =
-        let (k, m, e, t) = starts-rows cs edges n .next u before .attained p grew in
+        let (k, m, e, t) = starts-rows cs (edges .to-in) n .next u before .attained p grew in
         record {
           edges = edges;
           port = low;

@@ -1,4 +1,4 @@
--- The components below c are timed, and nothing is written. The measure is how many ports are left.
+-- The components below c have periods, those kept are the least, and nothing is written. The measure is how many ports are left.
 use Prim.Native.Nat.{_-_}
 use mathlib.Core.Path.{_≡_, refl, ap, _∙_}
 use mathlib.Core.Logic.{⊎-elim}
@@ -6,16 +6,30 @@ use native.Mathlib.Omega.{arith}
 use borrow.Author.Needs.{needs}
 use lib.ListN.{length}
 use Rattle.table.specs.Slices.{tableOf}
-use Rattle.analysis.proofs.periods.Turns.{Turns, turns-first, members-part, numbers-part, component-slices, part-room, turns-skip, turns-next, turns-shown, all-numbers, turns-all}
+use Rattle.analysis.proofs.periods.Turns.{
+  Turns,
+  turns-first,
+  members-part,
+  numbers-part,
+  component-slices,
+  part-room,
+  turns-skip,
+  turns-least,
+  turns-no-least,
+  turns-shown,
+  turns-without,
+  all-numbers,
+  turns-all,
+}
 use Rattle.analysis.proofs.periods.time_all.Statement.{statement}
 use Rattle.analysis.proofs.periods.time_all.Tie as tie
 
 abbrev Inv-loop : tie.InvT-loop
-Inv-loop ports links weights members numbers ends work₀ answer₀ total kept₀ member₀ number₀ c₀ work answer kept member number c =
-    Turns (tableOf ports links) weights members numbers ends (length work₀) kept answer₀ answer member number c × (length work ≡ length work₀)
+Inv-loop ports links weights members numbers ends work₀ answer₀ total kept₀ least₀ member₀ number₀ c₀ work answer kept least member number c =
+    Turns (tableOf ports links) weights members numbers ends (length work₀) kept answer₀ answer least member number c × (length work ≡ length work₀)
 
 abbrev μ-loop : tie.MeasureT-loop
-μ-loop ports links weights members numbers ends work₀ answer₀ total kept₀ member₀ number₀ c₀ work answer kept member number c =
+μ-loop ports links weights members numbers ends work₀ answer₀ total kept₀ least₀ member₀ number₀ c₀ work answer kept least member number c =
     total - c
 
 count-requires : tie.Need-count-requires Inv-loop μ-loop
@@ -31,10 +45,14 @@ index-1-member-end : tie.Need-index-1-member-end Inv-loop μ-loop
 index-1-member-end c = search needs
 
 index-2-member-end : tie.Need-index-2-member-end Inv-loop μ-loop
-index-2-member-end c = omega (arith, c .before .before .before .before .before .before .before .before .before .pre .0 .labelled .well-formed .few-ports)
+index-2-member-end c =
+    let entry = c .before .before .before .before .before .before .before .before .before in
+    omega (arith, entry .pre .0 .labelled .well-formed .few-ports)
 
 mul-number-end : tie.Need-mul-number-end Inv-loop μ-loop
-mul-number-end c = omega (arith, c .before .before .before .before .before .before .before .before .before .before .pre .0 .labelled .well-formed .few-ports)
+mul-number-end c =
+    let entry = c .before .before .before .before .before .before .before .before .before .before in
+    omega (arith, entry .pre .0 .labelled .well-formed .few-ports)
 
 index-1-number-end : tie.Need-index-1-number-end Inv-loop μ-loop
 index-1-number-end c = search needs
@@ -74,26 +92,37 @@ slice-aggregate-time-one c = search needs
 time-one-requires : tie.Need-time-one-requires Inv-loop μ-loop
 time-one-requires c κs =
     let at-if1 = c .before .before .before .before .before in
-    let turns = at-if1 .before .before .before .before .loop .inv in
-    let room = at-if1 .before .before .before .before .before .before .before .before .before .before .before .before .pre .1 in (
-      component-slices (turns .0) (omega arith) (at-if1 .if1 .taken),
-      (omega (arith, part-room (turns .0) (omega arith) (at-if1 .if1 .taken), turns .1), (turns .0 .timed .long, omega (arith, room, ap length (turns .0 .unchanged)))),
-    )
+    let at-loop = at-if1 .before .before .before .before in
+    let entry = at-loop .before .before .before .before .before .before .before .before in
+    (component-slices (at-loop .loop .inv .0) (omega arith) (at-if1 .if1 .taken), (omega (arith, part-room (at-loop .loop .inv .0) (omega arith) (at-if1 .if1 .taken), at-loop .loop .inv .1), (at-loop .loop .inv .0 .long, omega (arith, entry .pre .1, ap length (at-loop .loop .inv .0 .unchanged)))))
+
+enum-told : tie.Need-enum-told Inv-loop μ-loop
+enum-told c = search needs
+
+enum-told-2 : tie.Need-enum-told-2 Inv-loop μ-loop
+enum-told-2 c = search needs
+
+enum-known-one : tie.Need-enum-known-one Inv-loop μ-loop
+enum-known-one c = search needs
+
+number-of-requires : tie.Need-number-of-requires Inv-loop μ-loop
+number-of-requires c κs = search needs
 
 same-length : tie.Need-same-length Inv-loop μ-loop
 same-length c = search needs
 
 same-length-2 : tie.Need-same-length-2 Inv-loop μ-loop
 same-length-2 c =
-    let at-loop = c .before .before .before .before .before .before .before .before .before .before .before .before .before .before .before .before in
-    c .before .before .answer .given ∙ ap length (at-loop .loop .inv .0 .unchanged)
+    let at-answer = c .before .before .before .before .before in
+    let at-loop = at-answer .before .before .before .before .before .before .before .before .before .before .before .before .before .before in
+    at-answer .answer .given ∙ ap length (at-loop .loop .inv .0 .unchanged)
 
 returns : tie.Need-returns Inv-loop μ-loop
 returns c =
-    let at-time-one = c .before .before .before .before .before .before in
+    let at-time-one = c .before .before .before .before .before .before .before .before .before in
     let at-if1 = at-time-one .before .before .before .before .before .before in
     let at-loop = at-if1 .before .before .before .before in
-    turns-shown (at-loop .loop .inv .0) (omega arith) (at-if1 .if1 .taken) (at-time-one .time-one .ensures) (c .if2 .taken)
+    rw (c .number-of .ensures) (turns-shown (at-loop .loop .inv .0) (omega arith) (at-if1 .if1 .taken) (rw (c .before .before .one .given .1) at (at-time-one .time-one .ensures)))
 
 add-c : tie.Need-add-c Inv-loop μ-loop
 add-c c = search needs
@@ -105,8 +134,10 @@ loop-again : tie.Need-loop-again Inv-loop μ-loop
 loop-again c =
     let turns = c .before .before .before .before .loop .inv in
     ⊎-elim
-    (λ w. (rw (w .14, w .15) (turns-next (turns .0) (omega arith) (w .0 .taken) (w .6 .ensures) (w .12 .left)), ap length (w .13) ∙ w .7 .given ∙ turns .1))
-    (λ w. (rw (w .2, w .3) (turns-skip (turns .0) (omega arith) (w .0 .left)), ap length (w .1) ∙ turns .1))
+    (λ w. (rw (w .15, w .16, w .17) (turns-least (turns .0) (omega arith) (w .0 .taken) (rw (w .13 .given .1) at (w .6 .ensures))), ap length (w .14) ∙ w .7 .given ∙ turns .1))
+    (⊎-elim
+    (λ w. (rw (w .15, w .16, w .17) (turns-no-least (turns .0) (omega arith) (w .0 .taken) (rw (w .13 .given .1) at (w .6 .ensures))), ap length (w .14) ∙ w .7 .given ∙ turns .1))
+    (λ w. (rw (w .2, w .3, w .4) (turns-skip (turns .0) (omega arith) (w .0 .left)), ap length (w .1) ∙ turns .1)))
     (c .if1 .came)
 
 slice-aggregate-write-consistent : tie.Need-slice-aggregate-write-consistent Inv-loop μ-loop
@@ -114,17 +145,39 @@ slice-aggregate-write-consistent c = search needs
 
 write-consistent-requires : tie.Need-write-consistent-requires Inv-loop μ-loop
 write-consistent-requires c κs =
-    let entry = c .before .before .before .before .before .before .before .before .before .before .before in
-    (all-numbers (c .before .before .before .loop .inv .0) (omega arith), omega (arith, entry .pre .1, ap length (c .before .before .before .loop .inv .0 .unchanged)))
+    let at-loop = c .before .before .before .before in
+    let entry = at-loop .before .before .before .before .before .before .before .before in
+    (all-numbers (at-loop .loop .inv .0) (omega arith) (c .before .before .if2 .taken), omega (arith, entry .pre .1, ap length (at-loop .loop .inv .0 .unchanged)))
+
+number-of-requires-2 : tie.Need-number-of-requires-2 Inv-loop μ-loop
+number-of-requires-2 c κs = search needs
 
 same-length-3 : tie.Need-same-length-3 Inv-loop μ-loop
 same-length-3 c = search needs
 
 same-length-4 : tie.Need-same-length-4 Inv-loop μ-loop
-same-length-4 c = c .before .answer2 .given ∙ ap length (c .before .before .before .before .before .before .loop .inv .0 .unchanged)
+same-length-4 c =
+    let at-loop = c .before .before .before .before .before .before .before .before in
+    c .before .before .answer2 .given ∙ ap length (at-loop .loop .inv .0 .unchanged)
 
 returns-2 : tie.Need-returns-2 Inv-loop μ-loop
-returns-2 c = turns-all (c .before .before .before .before .before .before .loop .inv .0) (omega arith) (c .before .before .write-consistent .ensures)
+returns-2 c =
+    let at-write-consistent = c .before .before .before in
+    let at-if2 = at-write-consistent .before .before .before in
+    let at-loop = at-if2 .before .before in
+    rw (c .number-of2 .ensures) (turns-all (at-loop .loop .inv .0) (omega arith) (at-if2 .if2 .taken) (at-write-consistent .write-consistent .ensures))
+
+number-of-requires-3 : tie.Need-number-of-requires-3 Inv-loop μ-loop
+number-of-requires-3 c κs = search needs
+
+same-length-5 : tie.Need-same-length-5 Inv-loop μ-loop
+same-length-5 c = search needs
+
+same-length-6 : tie.Need-same-length-6 Inv-loop μ-loop
+same-length-6 c = search needs
+
+returns-3 : tie.Need-returns-3 Inv-loop μ-loop
+returns-3 c = rw (c .number-of3 .ensures) (turns-without (c .before .before .before .loop .inv .0) (omega arith) (c .before .if2 .left))
 
 pub time-all-spec : {M : Type 1} → statement M
 time-all-spec =
@@ -150,6 +203,10 @@ time-all-spec =
     part-time-one-end-2
     slice-aggregate-time-one
     time-one-requires
+    enum-told
+    enum-told-2
+    enum-known-one
+    number-of-requires
     same-length
     same-length-2
     returns
@@ -158,6 +215,11 @@ time-all-spec =
     loop-again
     slice-aggregate-write-consistent
     write-consistent-requires
+    number-of-requires-2
     same-length-3
     same-length-4
-    returns-2)
+    returns-2
+    number-of-requires-3
+    same-length-5
+    same-length-6
+    returns-3)

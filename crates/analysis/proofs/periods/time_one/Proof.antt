@@ -1,7 +1,7 @@
--- Without connections the period is the greatest limit; else what the search finds is kept or shown.
+-- Without connections the period is the greatest limit, if that is above zero; else what the search finds is kept or shown.
 use native.Mathlib.Omega.{arith}
 use borrow.Author.Needs.{needs}
-use Rattle.analysis.proofs.periods.Turns.{members-of, ports-of, limited-of, readable-of, component-of, idle, row-within, settled, shown, named}
+use Rattle.analysis.proofs.periods.Turns.{members-of, ports-of, limited-of, readable-of, component-of, idle, idle-without, row-within, settled, without, shown, named}
 use Rattle.analysis.proofs.periods.time_one.Statement.{statement}
 use Rattle.analysis.proofs.periods.time_one.Tie as tie
 
@@ -9,6 +9,13 @@ greatest-limit-requires : tie.Need-greatest-limit-requires
 greatest-limit-requires c κs =
     let entry = c .before .before .before .before .before .before .before in
     (ports-of (entry .pre .0), limited-of (entry .pre .0))
+
+returns : tie.Need-returns
+returns c =
+    let at-if1 = c .before .before .before in
+    let at-greatest-limit = at-if1 .before in
+    let entry = at-greatest-limit .before .before .before .before .before .before .before .before in
+    idle-without (entry .pre .0) (at-greatest-limit .greatest-limit .ensures) (at-if1 .if1 .taken) _ _ (c .if2 .taken)
 
 slice-reshare-prefix-keep : tie.Need-slice-reshare-prefix-keep
 slice-reshare-prefix-keep c = search needs
@@ -18,7 +25,7 @@ slice-aggregate-keep c = search needs
 
 keep-requires : tie.Need-keep-requires
 keep-requires c κs =
-    let entry = c .before .before .before .before .before .before .before .before .before .before .before in
+    let entry = c .before .before .before .before .before .before .before .before .before .before .before .before .before .before in
     (members-of (entry .pre .0), entry .pre .1 .1 .0)
 
 same-length : tie.Need-same-length
@@ -27,41 +34,45 @@ same-length c = search needs
 same-length-2 : tie.Need-same-length-2
 same-length-2 c = search needs
 
-returns : tie.Need-returns
-returns c =
-    let at-if1 = c .before .before .before .before .before in
+returns-2 : tie.Need-returns-2
+returns-2 c =
+    let at-if2 = c .before .before .before .before .before in
+    let at-if1 = at-if2 .before .before .before in
     let at-greatest-limit = at-if1 .before in
     let entry = at-greatest-limit .before .before .before .before .before .before .before .before in
-    idle (entry .pre .0) _ (at-greatest-limit .greatest-limit .ensures) (at-if1 .if1 .taken) (c .before .before .keep .ensures)
+    idle (entry .pre .0) (at-greatest-limit .greatest-limit .ensures) (at-if1 .if1 .taken) _ (at-if2 .if2 .left) (c .before .before .keep .ensures)
 
 least-period-requires : tie.Need-least-period-requires
 least-period-requires c κs =
     let entry = c .before .before .before .before .before .before .before .before .before .before in
     (readable-of (entry .pre .0), (component-of (entry .pre .0), (entry .pre .1 .0, c .before .before .greatest-limit .ensures)))
 
+enum-known-end : tie.Need-enum-known-end
+enum-known-end c = search needs
+
 sub-row : tie.Need-sub-row
 sub-row c =
-    let at-least-period = c .before .before .before .before in
+    let at-least-period = c .before .before .before .before .before .before in
     let entry = at-least-period .before .before .before .before .before .before .before .before .before .before .before in
-    omega (arith, row-within (entry .pre .0) (at-least-period .least-period .ensures .0) (c .before .if2 .taken) (omega (arith, entry .pre .1 .0, at-least-period .least-period .ensures .1)))
+    omega (arith, row-within (entry .pre .0) (at-least-period .least-period .ensures .0) (c .before .before .end .given .1) (omega (arith, entry .pre .1 .0, at-least-period .least-period .ensures .1)))
 
 mul-row : tie.Need-mul-row
 mul-row c =
-    let at-least-period = c .before .before .before .before in
+    let at-least-period = c .before .before .before .before .before .before in
     let entry = at-least-period .before .before .before .before .before .before .before .before .before .before .before in
-    omega (arith, row-within (entry .pre .0) (at-least-period .least-period .ensures .0) (c .before .if2 .taken) (omega (arith, entry .pre .1 .0, at-least-period .least-period .ensures .1)))
+    omega (arith, row-within (entry .pre .0) (at-least-period .least-period .ensures .0) (c .before .before .end .given .1) (omega (arith, entry .pre .1 .0, at-least-period .least-period .ensures .1)))
 
 add-keep : tie.Need-add-keep
 add-keep c =
-    let at-least-period = c .before .before .before .before in
+    let at-least-period = c .before .before .before .before .before .before in
     let entry = at-least-period .before .before .before .before .before .before .before .before .before .before .before in
-    omega (arith, row-within (entry .pre .0) (at-least-period .least-period .ensures .0) (c .before .if2 .taken) (omega (arith, entry .pre .1 .0, at-least-period .least-period .ensures .1)))
+    omega (arith, row-within (entry .pre .0) (at-least-period .least-period .ensures .0) (c .before .before .end .given .1) (omega (arith, entry .pre .1 .0, at-least-period .least-period .ensures .1)))
 
 mul-keep : tie.Need-mul-keep
 mul-keep c =
-    let at-least-period = c .before .before .before .before in
+    let at-least-period = c .before .before .before .before .before .before in
     let entry = at-least-period .before .before .before .before .before .before .before .before .before .before .before in
-    omega (arith, row-within (entry .pre .0) (at-least-period .least-period .ensures .0) (c .before .if2 .taken) (omega (arith, entry .pre .1 .0, at-least-period .least-period .ensures .1)))
+    omega (arith, row-within (entry .pre .0) (at-least-period .least-period .ensures .0) (c .before .before .end .given .1) (omega (arith, entry .pre .1 .0, at-least-period .least-period .ensures .1)))
 
 sub-keep : tie.Need-sub-keep
 sub-keep c = search needs
@@ -71,14 +82,27 @@ part-keep-start c = search needs
 
 part-keep-end : tie.Need-part-keep-end
 part-keep-end c =
-    let at-least-period = c .before .before .before .before .before in
+    let at-end = c .before .before .before in
+    let at-least-period = at-end .before .before .before .before in
     let entry = at-least-period .before .before .before .before .before .before .before .before .before .before .before in
-    omega (arith, row-within (entry .pre .0) (at-least-period .least-period .ensures .0) (c .before .before .if2 .taken) (omega (arith, entry .pre .1 .0, at-least-period .least-period .ensures .1)))
+    omega (arith, row-within (entry .pre .0) (at-least-period .least-period .ensures .0) (at-end .end .given .1) (omega (arith, entry .pre .1 .0, at-least-period .least-period .ensures .1)))
 
 keep-requires-2 : tie.Need-keep-requires-2
 keep-requires-2 c κs =
-    let entry = c .before .before .before .before .before .before .before .before .before .before .before .before .before .before .before .before .before .before in
+    let entry = c .before .before .before .before .before .before .before .before .before .before .before .before .before .before .before .before .before .before .before .before in
     (members-of (entry .pre .0), entry .pre .1 .1 .0)
+
+enum-told : tie.Need-enum-told
+enum-told c = search needs
+
+enum-told-2 : tie.Need-enum-told-2
+enum-told-2 c = search needs
+
+write-blocked-requires : tie.Need-write-blocked-requires
+write-blocked-requires c κs =
+    let at-least-period = c .before .before .before .before .before in
+    let entry = at-least-period .before .before .before .before .before .before .before .before .before .before .before in
+    (named (entry .pre .0) (at-least-period .least-period .ensures .0) (c .before .enum-told2 .given .1), omega (arith, entry .pre .1 .1 .1))
 
 same-length-3 : tie.Need-same-length-3
 same-length-3 c = search needs
@@ -86,44 +110,49 @@ same-length-3 c = search needs
 same-length-4 : tie.Need-same-length-4
 same-length-4 c = search needs
 
-returns-2 : tie.Need-returns-2
-returns-2 c =
-    let at-if2 = c .before .before .before .before .before .before .before in
-    let at-least-period = at-if2 .before .before .before in
+returns-3 : tie.Need-returns-3
+returns-3 c =
+    let at-end = c .before .before .before .before .before .before .before .before in
+    let at-least-period = at-end .before .before .before .before in
     let entry = at-least-period .before .before .before .before .before .before .before .before .before .before .before in
-    settled (entry .pre .0) (at-least-period .least-period .ensures .0) _ (at-if2 .if2 .taken) (c .before .before .keep2 .ensures)
-
-write-blocked-requires : tie.Need-write-blocked-requires
-write-blocked-requires c κs =
-    let at-least-period = c .before .before .before .before in
-    let entry = at-least-period .before .before .before .before .before .before .before .before .before .before .before in
-    (named (entry .pre .0) (at-least-period .least-period .ensures .0) (c .before .if2 .left), omega (arith, entry .pre .1 .1 .1))
+    settled (entry .pre .0) (at-least-period .least-period .ensures .0) _ (at-end .end .given .1) (c .before .before .keep2 .ensures)
 
 same-length-5 : tie.Need-same-length-5
 same-length-5 c = search needs
 
+returns-4 : tie.Need-returns-4
+returns-4 c =
+    let at-least-period = c .before .before .before .before in
+    let entry = at-least-period .before .before .before .before .before .before .before .before .before .before .before in
+    without (entry .pre .0) (at-least-period .least-period .ensures .0) _ _ (c .enum-told .given .1)
+
 same-length-6 : tie.Need-same-length-6
 same-length-6 c = search needs
 
-returns-3 : tie.Need-returns-3
-returns-3 c =
-    let at-if2 = c .before .before .before .before in
-    let at-least-period = at-if2 .before .before .before in
+same-length-7 : tie.Need-same-length-7
+same-length-7 c = search needs
+
+returns-5 : tie.Need-returns-5
+returns-5 c =
+    let at-enum-told2 = c .before .before .before .before in
+    let at-least-period = at-enum-told2 .before .before .before .before in
     let entry = at-least-period .before .before .before .before .before .before .before .before .before .before .before in
-    shown (entry .pre .0) (at-least-period .least-period .ensures .0) (at-if2 .if2 .left) (c .before .before .write-blocked .ensures)
+    shown (entry .pre .0) (at-least-period .least-period .ensures .0) _ (at-enum-told2 .enum-told2 .given .1) (c .before .before .write-blocked .ensures)
 
 pub time-one-spec : {M : Type 1} → statement M
 time-one-spec =
     tie.close
     (tie.spec
     greatest-limit-requires
+    returns
     slice-reshare-prefix-keep
     slice-aggregate-keep
     keep-requires
     same-length
     same-length-2
-    returns
+    returns-2
     least-period-requires
+    enum-known-end
     sub-row
     mul-row
     add-keep
@@ -132,10 +161,14 @@ time-one-spec =
     part-keep-start
     part-keep-end
     keep-requires-2
+    enum-told
+    enum-told-2
+    write-blocked-requires
     same-length-3
     same-length-4
-    returns-2
-    write-blocked-requires
+    returns-3
     same-length-5
+    returns-4
     same-length-6
-    returns-3)
+    same-length-7
+    returns-5)

@@ -1,4 +1,4 @@
--- Each product of parts is small, so their sums fit.
+-- Each sum of two products is small, so the products fit too.
 use native.Mathlib.Omega.{arith}
 use borrow.Author.Needs.{needs}
 use Rattle.period.proofs.delay.Bounds.{bounds}

@@ -1,9 +1,9 @@
--- Each a/b tried is a limit that no smaller one serves, and the next is greater.
+-- Each a/b tried is the floor's limit or just above zero, and the next is greater.
 use mathlib.Core.Path.{refl}
 use native.Mathlib.Omega.{arith}
 use borrow.Author.Needs.{needs}
 use Rattle.table.specs.Slices.{portsOf, linksOf}
-use Rattle.period.specs.Component.{mostRate}
+use Rattle.period.specs.Component.{justAbove}
 use Rattle.period.specs.Edges.{limitsOf, edgesOf}
 use Rattle.period.specs.EdgesLaws.{edges-count}
 use Rattle.period.proofs.search.Searching.{Searching, searching-first, searching-tries, searching-settled, searching-sums, searching-within, searching-blocked, searching-gains, searching-falls, searching-next}
@@ -17,12 +17,15 @@ Inv-loop ports links weights members numbers work₀ n none period₀ floor₀ l
 
 abbrev μ-loop : tie.MeasureT-loop
 μ-loop ports links weights members numbers work₀ n none period₀ floor₀ limit₀ work period floor limit =
-    left mostRate (period .num) (period .den)
+    left justAbove (period .num) (period .den)
+
+first-tried-requires : tie.Need-first-tried-requires Inv-loop μ-loop
+first-tried-requires c κs = search needs
 
 loop-holds : tie.Need-loop-holds Inv-loop μ-loop
 loop-holds c =
     let entry = c .before .before .before .before .before .before in
-    searching-first _ (entry .pre .1 .0) (search (edges-count, needs)) (entry .pre .1 .1 .0) (entry .pre .1 .1 .1) (record { ordered = omega arith; within = omega arith; long = refl })
+    searching-first _ (entry .pre .1 .0) (search (edges-count, needs)) (entry .pre .1 .1 .0) (entry .pre .1 .1 .1) (c .first-tried .ensures) (record { ordered = omega arith; within = omega arith; long = refl })
 
 slice-aggregate-try-at : tie.Need-slice-aggregate-try-at Inv-loop μ-loop
 slice-aggregate-try-at c = search needs
@@ -35,22 +38,25 @@ try-at-requires c κs =
 enum-known-r : tie.Need-enum-known-r Inv-loop μ-loop
 enum-known-r c = search needs
 
-add-t25 : tie.Need-add-t25 Inv-loop μ-loop
-add-t25 c =
-    let at-try-at = c .before .before .before .before .before .before in
-    omega (arith, rw (c .before .r .given .1) at (at-try-at .try-at .ensures .0))
+settled-end-requires : tie.Need-settled-end-requires Inv-loop μ-loop
+settled-end-requires c κs = search needs
+
+add-t26 : tie.Need-add-t26 Inv-loop μ-loop
+add-t26 c =
+    let at-try-at = c .before .before .before .before .before .before .before in
+    omega (arith, rw (c .before .before .r .given .1) at (at-try-at .try-at .ensures .0))
 
 same-length : tie.Need-same-length Inv-loop μ-loop
 same-length c =
-    let at-try-at = c .before .before .before .before .before .before in
+    let at-try-at = c .before .before .before .before .before .before .before in
     let at-loop = at-try-at .before .before .before in
     omega (arith, at-loop .loop .inv, at-try-at .try-at .ensures .1)
 
 returns : tie.Need-returns Inv-loop μ-loop
 returns c =
-    let at-try-at = c .before .before .before .before .before .before in
+    let at-try-at = c .before .before .before .before .before .before .before in
     let at-loop = at-try-at .before .before .before in
-    (searching-settled (at-loop .loop .inv) _ (rw (c .before .r .given .1) at (at-try-at .try-at .ensures .0)), omega (arith, at-loop .loop .inv, at-try-at .try-at .ensures .1))
+    (searching-settled (at-loop .loop .inv) _ (rw (c .before .before .r .given .1) at (at-try-at .try-at .ensures .0)) (c .settled-end .ensures), omega (arith, at-loop .loop .inv, at-try-at .try-at .ensures .1))
 
 enum-known-part : tie.Need-enum-known-part Inv-loop μ-loop
 enum-known-part c = search needs
@@ -110,11 +116,13 @@ least-period-spec =
     (tie.spec
     Inv-loop
     μ-loop
+    first-tried-requires
     loop-holds
     slice-aggregate-try-at
     try-at-requires
     enum-known-r
-    add-t25
+    settled-end-requires
+    add-t26
     same-length
     returns
     enum-known-part

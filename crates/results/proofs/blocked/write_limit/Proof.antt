@@ -1,4 +1,4 @@
--- A floor is the port or the cycle that it was found as.
+-- A floor is the port, the cycle or zero, as it was found.
 use borrow.Author.Needs.{needs}
 use Rattle.results.proofs.blocked.write_limit.Statement.{statement}
 use Rattle.results.proofs.blocked.write_limit.Tie as tie
@@ -17,6 +17,12 @@ write-connections-requires c κs =
     let entry = c .before .before .before .before .before in
     (entry .pre .0 .limit (c .before .enum-told .given .1), entry .pre .1)
 
+enum-told-2 : tie.Need-enum-told-2
+enum-told-2 c = search needs
+
+write-floor-requires-2 : tie.Need-write-floor-requires-2
+write-floor-requires-2 c κs = search needs
+
 same-length : tie.Need-same-length
 same-length c = search needs
 
@@ -29,6 +35,12 @@ same-length-2 c = search needs
 returns-2 : tie.Need-returns-2
 returns-2 c = rw (c .before .before .before .before .enum-told .given .1) (c .before .before .write-connections .ensures)
 
+same-length-3 : tie.Need-same-length-3
+same-length-3 c = search needs
+
+returns-3 : tie.Need-returns-3
+returns-3 c = rw (c .before .before .before .before .enum-told2 .given .1) (c .before .before .write-floor2 .ensures)
+
 pub write-limit-spec : {M : Type 1} → statement M
 write-limit-spec =
     tie.close
@@ -37,7 +49,11 @@ write-limit-spec =
     write-floor-requires
     enum-told
     write-connections-requires
+    enum-told-2
+    write-floor-requires-2
     same-length
     returns
     same-length-2
-    returns-2)
+    returns-2
+    same-length-3
+    returns-3)

@@ -20,11 +20,11 @@ returns-3 c =
     let entry = at-if1 .before .before in
     rw (eq-eqb _ _ (at-if1 .if1 .left), not-false (entry .args .before .«port_may_come») (c .before .before .if2 .left), le-leb _ _ (c .if3 .taken))
 
-add-parts-faulty : tie.Need-add-parts-faulty
-add-parts-faulty c = search needs
+add-rate-faulty : tie.Need-add-rate-faulty
+add-rate-faulty c = search needs
 
-parts-faulty-requires : tie.Need-parts-faulty-requires
-parts-faulty-requires c κs = search needs
+rate-faulty-requires : tie.Need-rate-faulty-requires
+rate-faulty-requires c κs = search needs
 
 returns-4 : tie.Need-returns-4
 unfolding portAt
@@ -32,7 +32,7 @@ returns-4 c =
     let at-if2 = c .before .before .before .before in
     let at-if1 = at-if2 .before .before in
     let entry = at-if1 .before .before in
-    rw (eq-eqb _ _ (at-if1 .if1 .left), not-false (entry .args .before .«port_may_come») (at-if2 .if2 .left), lt-leb _ _ (c .before .before .if3 .left), ← c .before .parts-faulty .ensures, c .if4 .taken)
+    rw (eq-eqb _ _ (at-if1 .if1 .left), not-false (entry .args .before .«port_may_come») (at-if2 .if2 .left), lt-leb _ _ (c .before .before .if3 .left), ← c .before .rate-faulty .ensures, c .if4 .taken)
 
 add-port-of : tie.Need-add-port-of
 add-port-of c = search needs
@@ -49,7 +49,7 @@ returns-5 c =
     let at-if2 = c .before .before .before .before .before in
     let at-if1 = at-if2 .before .before in
     let entry = at-if1 .before .before in
-    rw (eq-eqb _ _ (at-if1 .if1 .left), not-false (entry .args .before .«port_may_come») (at-if2 .if2 .left), lt-leb _ _ (c .before .before .before .if3 .left), ← c .before .before .parts-faulty .ensures, c .before .if4 .left, c .port-of .ensures)
+    rw (eq-eqb _ _ (at-if1 .if1 .left), not-false (entry .args .before .«port_may_come») (at-if2 .if2 .left), lt-leb _ _ (c .before .before .before .if3 .left), ← c .before .before .rate-faulty .ensures, c .before .if4 .left, c .port-of .ensures)
 
 pub read-port-spec : {M : Type 1} → statement M
 read-port-spec =
@@ -58,8 +58,8 @@ read-port-spec =
     returns
     returns-2
     returns-3
-    add-parts-faulty
-    parts-faulty-requires
+    add-rate-faulty
+    rate-faulty-requires
     returns-4
     add-port-of
     port-of-requires
