@@ -1,11 +1,11 @@
 #!/usr/bin/env python3
 """Writes crates/models/stdin and stdout: tables that the program `models` is run on, and what it prints of them.
 
-The tables are those of the examples, models at the edges, those without rates among them, random models, one or more for each number without
-a model, and random models with a fault in their bytes. What the program prints is checked, answer by answer, before it is written: number and
-lines by the exact solver of solver.py, number and place of a fault by reader.py, and both by what is said here beside some tables; the loop,
-floor or block that is shown, which is free, by shown.py. Where an answer is wrong, or some number or kind of floor does not occur, nothing is
-written, and the status is 1."""
+The tables are those of the examples, models at the edges, those without rates and those of buffers' sizes among them, random models, one or more
+for each number without a model, and random models with a fault in their bytes. What the program prints is checked, answer by answer, before it
+is written: number and lines by the exact solver of solver.py, number and place of a fault by reader.py, and both by what is said here beside some
+tables; the loop, floor or block that is shown, which is free, by shown.py. Where an answer is wrong, or some number, kind of floor or delay that
+a buffer needs does not occur, nothing is written, and the status is 1."""
 import argparse
 import glob
 import os
@@ -17,12 +17,12 @@ from fractions import Fraction
 from joiner import join
 from model import Link, Model, Port, link_bytes, port_bytes, record, table_bytes
 from programs import BASE, answers, built, tables_input
-from random_models import FAST, UNRATED, faulty_table, large, small
+from random_models import FAST, UNRATED, dense_unrated, faulty_table, large, small
 from ratios import weights
 from reader import first_fault
 from separate import separate_answer
 from shown import Wrong, check_blocked, check_loop
-from solver import answer_line, numbers_by_component, printed
+from solver import analyse, answer_line, numbers_by_component, printed
 from table_text import read_text, text_of
 
 random.seed(20261115)
@@ -140,6 +140,42 @@ WITHOUT_RATE = [
 ]
 
 
+def between(rate, start, sizes):
+    """Two ports of this rate, the second starts so many ticks after the first; buffers from the second back to the first, by their ticks
+    with their sizes."""
+    model = Model([Port(*rate)] * 2, [Link(0, 1, ticks=start)] + [Link(1, 0, ticks=ticks, events=None) for ticks in sizes])
+    ports = [(0, 1, 1 / Fraction(*rate), Fraction(s)) for s in (0, start)]
+    return model, printed(0, ports, enumerate(sizes.values(), 1))
+
+
+def weighted():
+    """Periods 2 and 1, and buffers both ways: the sender's period counts."""
+    model = Model([Port()] * 2, [Link(0, 1, 2, 1, 3, None), Link(1, 0, 1, 2, 3, None), Link(0, 0, 1, 1, 4, None)])
+    return model, printed(0, [(0, 2, Fraction(2), Fraction(0)), (0, 1, Fraction(1), Fraction(0))], [(0, 2), (1, 3), (2, 2)])
+
+
+def largest():
+    """Periods down to 1/620,000,000, and with the longest delay the most events."""
+    model, text = ring([10_000] * 62, [10, 1])
+    sizes = [(Link(63, 63, ticks=10_000_000, events=None), 6_200_000_000_000_000), (Link(63, 63, ticks=-10_000_000, events=None), 0),
+             (Link(63, 62, 1, 10, 9_999_999, None), 6_199_999_380_000_000), (Link(62, 63, 10, 1, 1, None), 62_000_000),
+             (Link(0, 0, ticks=1, events=None), 62_000)]
+    text += ''.join(f'buffer {n} size {size}\n' for n, (_, size) in enumerate(sizes, len(model.links)))
+    model.links += [link for link, _ in sizes]
+    return model, text
+
+
+# The sizes of buffers by cases (change request F-4), each model with what is printed of it.
+SIZES = [
+    between((1, 3), 2, {-10_000_000: 0, -12: 0, -3: 0, -2: 0, -1: 1, 0: 1, 1: 1, 2: 2, 3: 2, 4: 2, 5: 3}),
+    between((2, 3), 3, {-4: 0, -3: 0, -2: 1, -1: 2, 0: 2, 1: 3, 4: 5}),
+    between((1000, 1), 0, {-1: 0, 0: 0, 1: 1000, 10_000_000: 10_000_000_000}),
+    between((1000, 999), 1, {-2: 0, -1: 0, 0: 2, 998: 1000, 999: 1002, 9_999_999: 10_010_011}),
+    weighted(),
+    largest(),
+]
+
+
 def faulty_tables(count):
     """So many random tables with a fault."""
     tables = []
@@ -189,13 +225,34 @@ def check(model, due, text):
         raise Wrong(f'{len(lines)} lines follow what is due')
 
 
-# What must occur among the answers: the numbers; the kinds of floor; and 15 where another component has periods but no least.
-OCCUR = [*(f'answer {number}' for number in (0, *range(2, 16), 17, 'long')), 'floor port', 'floor cycle', 'floor zero', '15 beside 17']
+# What must occur among the answers: the numbers; the kinds of floor; 15 where another component has periods but no least; and the delays that
+# buffers need: below zero, zero, an exact number of events, and one with a part over.
+OCCUR = [*(f'answer {number}' for number in (0, *range(2, 16), 17, 'long')), 'floor port', 'floor cycle', 'floor zero', '15 beside 17',
+         'needed below zero', 'needed zero', 'needed exact', 'needed part over']
+
+
+def needed(model):
+    """Of each buffer of a consistent model the delay that it needs; its case gives the size."""
+    _, ports, sizes = analyse(model)
+    for number, size in sizes:
+        link = model.links[number]
+        *_, period, start = ports[link.start]
+        delay = start + link.ticks - ports[link.end][-1]
+        events, over = divmod(delay, period)
+        if delay <= 0:
+            kind, due = 'needed zero' if delay == 0 else 'needed below zero', 0
+        else:
+            kind, due = ('needed part over', events + 1) if over else ('needed exact', events)
+        if size != due:
+            raise Wrong(f'buffer {number} has {kind}')
+        yield kind
 
 
 def kinds(model, text):
     """What of this occurs in an answer."""
     yield ' '.join(text.split()[:2])
+    if text.startswith(answer_line(0)):
+        yield from needed(model)
     if text.startswith(answer_line(15)):
         yield ' '.join(text.splitlines()[1].split()[:2])
         if 17 in numbers_by_component(model, weights(model)[1]).values():
@@ -207,10 +264,12 @@ def main():
     options.add_argument('--program', default=built('models'), help='the built program')
     program = options.parse_args().program
     cases = [(f'{len(table)} bytes', table, None, due) for table, due in REFUSED]
-    cases += [(f'without rate {n}', table_bytes(model), model, due) for n, (model, due) in enumerate(WITHOUT_RATE)]
+    for name, listed in (('without rate', WITHOUT_RATE), ('sizes', SIZES)):
+        cases += [(f'{name} {n}', table_bytes(model), model, due) for n, (model, due) in enumerate(listed)]
     models = [*examples(), *((f'edge {n}', model) for n, model in enumerate(EDGES))]
     models += [(f'small {n}', small()) for n in range(5000)]
     models += [(f'large {n}', large()) for n in range(200)]
+    models += [(f'dense {n}', dense_unrated()) for n in range(90)]
     cases += [(name, table_bytes(model), model, None) for name, model in models]
     cases += [*faulty_examples(), *faulty_tables(2000)]
     tables = [table for _, table, _, _ in cases]
@@ -223,9 +282,9 @@ def main():
             check(model, separate_answer(table), texts[at])
             if name.endswith(('.txt', '.table', '.joined')):
                 check_example(name, texts[at])
+            counts.update(kinds(model, texts[at]))
         except Wrong as why:
             sys.exit(f'table {at} ({name}): {why}; printed is {texts[at]!a}')
-        counts.update(kinds(model, texts[at]))
     if set(counts) != set(OCCUR):
         sys.exit(f'not met, or not expected: {sorted(set(counts) ^ set(OCCUR))}')
     folder = os.path.join(BASE, 'crates', 'models')

@@ -1,4 +1,5 @@
 """Random models, and tables of them with a fault. The caller sets the seed."""
+import itertools
 import random
 from dataclasses import replace
 
@@ -93,6 +94,29 @@ def long_chain(ports):
     elif kind == 3:
         p = random.randrange(ports)
         model.links.append(Link(p, p, *random.choice(((2, 2), (3, 2), (1000, 1000), (999, 1000)))))
+    return model
+
+
+def dense_unrated():
+    """Ports without a rate, each with a connection to each other, so that the cycles are too many to list. By chosen starts no cycle has E above
+    zero, and none with E zero has D above zero; where a connection is then moved, one has."""
+    ports = random.randint(8, 11)
+    ticks, events = ([random.randint(0, 9) for _ in range(ports)] for _ in range(2))
+    pair = random.sample(range(ports), 2)
+    model = Model([UNRATED] * ports)
+    for p, q in itertools.permutations(range(ports), 2):
+        spare_ticks, spare_events = random.choice((0, 0, 1, 3)), random.choice((0, 0, 1))
+        if {p, q} == set(pair):
+            spare_ticks = spare_events = 0
+        elif spare_ticks:
+            spare_events = random.randint(-9, 9)
+        model.links.append(Link(p, q, ticks=ticks[q] - ticks[p] - spare_ticks, events=events[q] - events[p] - spare_events))
+    moved = next(link for link in model.links if [link.start, link.end] == pair)
+    kind = random.randrange(3)
+    if kind == 1:
+        moved.events += 1
+    elif kind == 2:
+        moved.ticks, moved.events = moved.ticks + 1, moved.events - random.randint(0, 9)
     return model
 
 

@@ -102,7 +102,7 @@ fn decide(ports: &[u32], links: &[u32], answer: &mut [u8]) -> Outcome
     }
 }
 
-// 15, or 0 with the periods, starts and sizes. The room for the work is cleared before use, which takes longer than the work on a small
+// 15, 17, or 0 with the periods, starts and sizes. The room for the work is cleared before use, which takes longer than the work on a small
 // table; so it has three sizes.
 fn time(
     ports: &[u32],

@@ -10,7 +10,7 @@ use Rattle.specification.specs.declared.Ticks.{Ticks}
 use Rattle.specification.specs.declared.Events.{Events}
 use Rattle.specification.specs.declared.Port.{Port}
 use Rattle.specification.specs.declared.Link.{Link}
-use Rattle.specification.specs.Table.{Table, IsConnection}
+use Rattle.specification.specs.Table.{Table, IsConnection, from}
 use Rattle.specification.specs.Ratios.{Step, stay, walk}
 use Rattle.specification.specs.Answers.{
   Timing,
@@ -27,6 +27,9 @@ use Rattle.specification.specs.Answers.{
   consistent,
   Right,
 }
+use Rattle.specification.specs.declared.Needed.{Needed}
+use Rattle.specification.specs.declared.Needed.the-variants.{Nothing, Exact, PartOver}
+use Rattle.specification.specs.Sizes.{IsNeeded, neededDelay}
 use Rattle.specification.specs.Chains.{Chain, first, connection}
 use Rattle.demands.proofs.Tests.{distinct-is, consistent-by, blocked-by, blocked-from-zero-by, no-least-by, overweight-by}
 
@@ -89,6 +92,17 @@ A =
     (one ∷ one ∷ [], plain 0 1 (3, 0) (0, 0) ∷ plain 1 0 (0, 0) (0, 2) ∷ buffer 1 0 (4, 0) ∷ [])
     gives consistent A-timing
 
+-- the period is 3, the starts 0 and 2; the buffers need the delays −10, 0, 6 and 7
+sized-timing : Timing
+sized-timing = timed (1 ∷ 1 ∷ []) 3 1 (omega arith) (0 ∷ 2 ∷ []) (0 ∷ 0 ∷ 0 ∷ 2 ∷ 3 ∷ [])
+
+sized : Model
+sized = (
+  rated 1 3 ∷ rated 1 3 ∷ [],
+  plain 0 1 (2, 0) (0, 0) ∷ buffer 1 0 (0, 12) ∷ buffer 1 0 (0, 2) ∷ buffer 1 0 (4, 0) ∷ buffer 1 0 (5, 0) ∷ [],
+)
+    gives consistent sized-timing
+
 I : Model
 I =
     (one ∷ one ∷ [], plain 0 1 (0, 0) (0, 0) ∷ geared 0 1 2 1 (0, 0) (0, 0) ∷ [])
@@ -147,6 +161,7 @@ models =
     ∷ ((rateless ∷ [], plain 0 0 (0, 0) (0, 0) ∷ []) gives noLeast)
     ∷ ((rateless ∷ [], plain 0 0 (0, 0) (0, 1) ∷ []) gives noLeast)
     ∷ ((rateless ∷ [], plain 0 0 (0, 1) (1000, 0) ∷ []) gives noLeast)
+    ∷ sized
     ∷ []
 
 -- ---- the lemma
@@ -169,7 +184,7 @@ I-right = record {
 
 -- a floor, or weights and a/b at the floor, show what the tests compute; at 17 an a/b that is possible with all below it
 models-right : EachRight models
-unfolding models A A-timing I _gives_
+unfolding models A A-timing I sized sized-timing _gives_
 models-right =
     also (consistent-by (cycle (0 ∷ 1 ∷ [])) tt)
     (also (consistent-by (rate 0) tt)
@@ -192,7 +207,8 @@ models-right =
     (also (no-least-by (λ p. 1) 1 1 tt)
     (also (no-least-by (λ p. 1) 1 1 tt)
     (also (no-least-by (λ p. 1) 1 1000 tt)
-    end))))))))))))))))))))
+    (also (consistent-by (rate 0) tt)
+    end)))))))))))))))))))))
 
 -- ---- model A: event 4 of port 1 is reached at 9, and is allowed until 9
 A-chain : (time : Rational) × Chain (tableIn A) (A-timing .size) 1 4 time × (time ≈ whole 9)
@@ -213,3 +229,24 @@ A-chain = (
 A-bound : startOf A-timing 1 ⊕ 4 · periodOf A-timing 1 ≈ whole 9
 unfolding A-timing
 A-bound = record { holds = refl }
+
+-- ---- the cases of buffers
+abbrev Needs : Model → Timing → ℕ → Needed → Type 0
+Needs m r k x = IsNeeded (neededDelay (tableIn m) r k) (periodOf r (from (tableIn m) k)) x
+
+-- 7 where the period is 3/2
+A-needs : Needs A A-timing 2 (PartOver (4, 0))
+unfolding A A-timing _gives_
+A-needs = record { none-back = refl; above-zero = omega arith; part = omega arith; less = omega arith }
+
+sized-needs : Needs sized sized-timing 1 Nothing
+    × Needs sized sized-timing 2 Nothing
+    × Needs sized sized-timing 3 (Exact (2, 0))
+    × Needs sized sized-timing 4 (PartOver (2, 0))
+unfolding sized sized-timing _gives_
+sized-needs = (
+  record { holds = omega arith },
+  record { holds = omega arith },
+  record { none-back = refl; above-zero = omega arith; exact = omega arith },
+  record { none-back = refl; above-zero = omega arith; part = omega arith; less = omega arith },
+)

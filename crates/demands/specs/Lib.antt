@@ -7,6 +7,8 @@ pub mod Room
 pub mod SamePeriod
 pub mod NoLeastLaws
 pub mod Demand2Laws
+pub mod CaseLaws
+pub mod SizeLaws
 pub mod Reordered
 pub mod OrderLaws
 pub mod OneAnswer

@@ -3,10 +3,10 @@ use Prim.Native.Nat.{ℕ, _*_, _-_, _≤_, _<_}
 use mathlib.Core.Bool.{Bool, true, false, cond}
 use mathlib.Core.Path.{_≡_, refl, ap}
 use mathlib.Core.List.{List, _∷_}
-use native.Mathlib.Nat.{mul-pos, le-of-mul-le-mul-right, eq-of-mul-eq-mul-right}
+use native.Mathlib.Nat.{mul-pos, le-of-mul-le-mul-right}
 use native.Mathlib.Omega.{arith}
-use Rattle.numbers.specs.Rationals.{Rational, _≼_, _≺_, _≈_, _⊕_, _⊗_, _·_, whole, share, ratio}
-use Rattle.numbers.specs.RationalLaws.{≼-trans, ≺-≼, ≈-≼, ≈-sym, ≈-trans, ⊕-right-≼, ⊕-≈, ≈-refl, ⊗-left-≈, ·-≼, ·-≈, ·-·, ·-cancel-≈, as-share}
+use Rattle.numbers.specs.Rationals.{Rational, _≼_, _≈_, _⊕_, _⊗_, _·_, share, ratio}
+use Rattle.numbers.specs.RationalLaws.{≼-trans, ≺-≼, ≈-≼, ≈-sym, ≈-trans, ⊕-right-≼, ⊕-≈, ≈-refl, ⊗-left-≈, ·-≼, ·-≈, ·-·, ·-cancel-≈, factor-≈, as-share}
 use Rattle.numbers.specs.Lists.{sum}
 use Rattle.specification.specs.Periods.{Graph, Walk, stop, step, gain, loss, Serves, PortIn, ConnectionIn, graphIn}
 use Rattle.table.specs.WellFormed.{WellFormed}
@@ -51,19 +51,11 @@ module _ {t : Table} {P : ℕ → Rational} (ratios : Ratios t P) where
       (≈-trans scaled (≈-trans (·-≈ (w p) (≈-sym (way-ratio (j .way)))) (swap (w p) (above t (j .path)) (P q))))
 
 -- ---- around closed ways
--- what is the same times a number above zero is the same
-same-factor : {m n : ℕ} {x : Rational} → whole 0 ≺ x → m · x ≈ n · x → m ≡ n
-same-factor {m} {n} {x} some e =
-    let x′ = as-share x (≺-≼ some) in
-    let e′ = ≈-trans (≈-sym (·-≈ m x′)) (≈-trans e (·-≈ n x′)) in
-    eq-of-mul-eq-mul-right ((x .plus - x .minus) * x .over)
-    (mul-pos (omega (arith, some .holds)) (x .positive)) m n (omega (arith, e′ .holds))
-
 module _ {t : Table} (formed : WellFormed t) (s : Solution t) where
   closed-ratio : {p q : ℕ} {path : List Step} → Way t p q path → p ≡ q → above t path ≡ below t path
   closed-ratio stay e = refl
   closed-ratio (walk x i v) e =
-      same-factor (s .meets .above-zero (leaves t x) (step-port formed x i))
+      factor-≈ (s .meets .above-zero (leaves t x) (step-port formed x i))
       (rw (← e) at (way-ratio (s .meets .ratios) (walk x i v)))
 
   -- every closed way has the ratio 1

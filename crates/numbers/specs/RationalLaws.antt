@@ -2,14 +2,10 @@
 use Prim.Native.Nat.{ℕ, suc, _+_, _*_, _-_, _≤_, _<_}
 use mathlib.Core.Path.{_≡_, ap}
 use mathlib.Core.Logic.{_⊎_, inl, inr, _↔_}
-use native.Mathlib.Nat.{mul-pos, mul-le-mul-right, mul-le-mul-left, mul-lt-mul-of-pos-right, le-of-mul-le-mul-right, lt-of-mul-lt-mul-right}
+use native.Mathlib.Nat.{le-antisymm, mul-pos, mul-le-mul-right, mul-le-mul-left, mul-lt-mul-of-pos-right, le-of-mul-le-mul-right, lt-of-mul-lt-mul-right}
 use native.Mathlib.Decide.{decLe}
 use native.Mathlib.Omega.{arith}
-use Rattle.numbers.specs.Rationals.{Rational, _≼_, _≺_, _≈_, ratio, share, whole, _⊕_, _⊗_, _·_}
-
--- zero minus x
-abbrev pub negated : Rational → Rational
-negated x = record { plus = x .minus; minus = x .plus; over = x .over; positive = x .positive }
+use Rattle.numbers.specs.Rationals.{Rational, _≼_, _≺_, _≈_, ratio, share, whole, _⊕_, _⊖_, _⊗_, _·_}
 
 -- ---- order
 pub ≼-refl : (x : Rational) → x ≼ x
@@ -86,8 +82,8 @@ pub ⊕-assoc : (x y z : Rational) → (x ⊕ y) ⊕ z ≈ x ⊕ (y ⊕ z)
 pub ⊕-zero : (x : Rational) → x ⊕ whole 0 ≈ x
 ⊕-zero x = omega arith
 
-pub ⊕-negated : (x : Rational) → x ⊕ negated x ≈ whole 0
-⊕-negated x = omega arith
+pub ⊖-≼ : (x y z : Rational) → (x ⊖ y ≼ z) ↔ (x ≼ y ⊕ z)
+⊖-≼ x y z = (λ h. omega arith, λ h. omega arith)
 
 pub ⊕-right-≼ : {x y : Rational} (z : Rational) → x ≼ y → x ⊕ z ≼ y ⊕ z
 ⊕-right-≼ z h = omega (arith, mul-le-mul-right (z .over * z .over) (h .holds))
@@ -164,6 +160,28 @@ pub ·-cancel-≼ : (n : ℕ) {x y : Rational} → 0 < n → n · x ≼ n · y �
 
 pub ·-cancel-≈ : (n : ℕ) {x y : Rational} → 0 < n → n · x ≈ n · y → x ≈ y
 ·-cancel-≈ n p h = ≼-antisym (·-cancel-≼ n p (≈-≼ h)) (·-cancel-≼ n p (≈-≼ (≈-sym h)))
+
+-- ---- multiples of a rational above zero stand in the order of their factors
+module _ {x : Rational} (some : whole 0 ≺ x) where
+  abbrev above : ℕ
+  above = (x .plus - x .minus) * x .over
+
+  above-some : 0 < above
+  above-some = mul-pos (omega (arith, some .holds)) (x .positive)
+
+  plus-is : (n : ℕ) → n * x .plus * x .over ≡ n * x .minus * x .over + n * above
+  plus-is n =
+      let e : x .plus ≡ x .minus + (x .plus - x .minus) = omega (arith, some .holds) in
+      omega (arith, ap (λ (y : ℕ). n * y * x .over) e)
+
+  pub factor-≼ : (m n : ℕ) → m · x ≼ n · x → m ≤ n
+  factor-≼ m n h = le-of-mul-le-mul-right {k = above} (omega (arith, plus-is m, plus-is n)) above-some
+
+  pub factor-≺ : (m n : ℕ) → m · x ≺ n · x → m < n
+  factor-≺ m n h = lt-of-mul-lt-mul-right above (omega (arith, plus-is m, plus-is n))
+
+  pub factor-≈ : {m n : ℕ} → m · x ≈ n · x → m ≡ n
+  factor-≈ {m} {n} h = le-antisymm (factor-≼ m n (≈-≼ h)) (factor-≼ n m (≈-≼ (≈-sym h)))
 
 -- ---- over one denominator, order and sum are those of whole numbers
 pub ratio-≼ : (o : ℕ) (s : 0 < o) (p m q n : ℕ) → (ratio p m o s ≼ ratio q n o s) ↔ (p + n ≤ q + m)

@@ -5,7 +5,7 @@ use native.Mathlib.Nat.{mul-pos}
 use native.Mathlib.Omega.{arith}
 
 infix 50 _≼_ _≺_ _≈_
-infixl 60 _⊕_
+infixl 60 _⊕_ _⊖_
 infixl 70 _⊗_ _·_
 -- (plus − minus) / over
 pub record Rational : Type 0 where
@@ -46,6 +46,15 @@ abbrev pub _⊕_ : Rational → Rational → Rational
 x ⊕ y = record {
   plus = x .plus * y .over + y .plus * x .over;
   minus = x .minus * y .over + y .minus * x .over;
+  over = x .over * y .over;
+  positive = mul-pos (x .positive) (y .positive);
+}
+
+-- the difference
+abbrev pub _⊖_ : Rational → Rational → Rational
+x ⊖ y = record {
+  plus = x .plus * y .over + y .minus * x .over;
+  minus = x .minus * y .over + y .plus * x .over;
   over = x .over * y .over;
   positive = mul-pos (x .positive) (y .positive);
 }

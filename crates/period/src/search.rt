@@ -1,4 +1,4 @@
-// The least period of a component, or a floor and a cycle that blocks every period.
+// The least period of a component; or that it has periods but no least; or a floor and a cycle that blocks every period.
 ghost use mathlib.Core.Path.{_≡_};
 ghost use Prim.Native.Nat.{_+_, _*_, _≤_};
 ghost use lib.ListN.{length};

@@ -1,2 +1,3 @@
--- What the proof of `size_of` uses.
+-- What the proofs of sizes use.
+mod Cases
 mod Delays

@@ -16,21 +16,21 @@ use Rattle.results.specs.Kept.{aAt, bAt, startAt, fewestEvents, sizeAt, 
 
 -- ---- fewest events, over plain numbers
 module _ (from to period : ℕ) where
-  fewest-enough : 0 < period → from ≤ to + fewestEvents from to period * period
+  pub fewest-enough : 0 < period → from ≤ to + fewestEvents from to period * period
   unfolding fewestEvents
   fewest-enough some = ⊎-elim
       (λ (h : to < from). rw (lt-leb from to h) (omega (arith, lt-div-mul-add {a = from - to - 1} some)))
       (λ (h : from ≤ to). rw (le-leb from to h) (omega arith))
       (lt-or-le to from)
 
-  fewest-least : (e : ℕ) → 0 < period → from ≤ to + e * period → fewestEvents from to period ≤ e
+  pub fewest-least : (e : ℕ) → 0 < period → from ≤ to + e * period → fewestEvents from to period ≤ e
   unfolding fewestEvents
   fewest-least e some enough = ⊎-elim
       (λ (h : to < from). rw (lt-leb from to h) (omega (arith, div-lt-iff-lt-mul {x = from - to - 1} {y = e} some .1 (omega arith))))
       (λ (h : from ≤ to). rw (le-leb from to h) (omega arith))
       (lt-or-le to from)
 
-  fewest-most : 0 < period → fewestEvents from to period ≤ from
+  pub fewest-most : 0 < period → fewestEvents from to period ≤ from
   fewest-most some = fewest-least from some (omega (arith, mul-le-mul-left from some))
 
 -- ---- the numbers of a buffer

@@ -76,7 +76,7 @@ joined table = record { number = 0; place = 0; input = 0; table = table }
 abbrev pub faultOr : (input : ℕ) → Reading → Join → Join
 faultOr input r next = cond (eqb (r .number) 0) next (refusal (r .number) (r .place) input)
 
--- 2 to 11 in each input; 12 to 15 are not tried
+-- 2 to 11 in each input; 12 to 15 and 17 are not tried
 unfoldable pub joinOf : (first second added : List ℕ) → Join
 joinOf first second added =
     faultOr 1 (readFirst first)

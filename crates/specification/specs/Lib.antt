@@ -12,3 +12,4 @@ pub mod Demanded
 pub mod Encoding
 pub mod Joining
 pub mod Bracketing
+pub mod Sizes

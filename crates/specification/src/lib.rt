@@ -24,6 +24,16 @@ pub struct Link {
     pub buffer: bool,
 }
 
+// What the delay that a buffer needs comes to, in events of its sender.
+pub enum Needed {
+    // The delay is zero or less.
+    Nothing,
+    // It is above zero, and exactly so many events.
+    Exact(Events),
+    // It is above zero: so many whole events, and a part of one over.
+    PartOver(Events),
+}
+
 // What stands in the input before a record.
 pub struct Before {
     // The ports and links so far: for the limits.

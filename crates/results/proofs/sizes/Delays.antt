@@ -1,5 +1,5 @@
 -- The delay of a buffer and one event of its sender, in ticks over b.
-use Prim.Native.Nat.{ℕ, _+_, _*_, _<_}
+use Prim.Native.Nat.{ℕ, _+_, _*_, _-_, _<_}
 use mathlib.Core.Path.{_≡_, sym, ap, _∙_}
 use mathlib.Core.List.{List}
 use native.Mathlib.Omega.{arith}
@@ -8,6 +8,7 @@ use Rattle.fraction.specs.declared.Fraction.{Fraction}
 use Rattle.numbers.specs.Divisors.{Coprime}
 use Rattle.numbers.specs.Gcd.{coprime-one}
 use Rattle.fraction.specs.Lowest.{lowestTerms, lowest-already}
+use Rattle.specification.specs.declared.Events.{Events}
 use Rattle.specification.specs.declared.Link.{Link}
 use Rattle.specification.specs.declared.Ticks.{Ticks}
 use Rattle.period.specs.Delay.{delayAt, SmallDelay}
@@ -22,6 +23,7 @@ pub record BufferDelays (l : Link) (weights kept : List ℕ) (sender receiver : 
   pub forward : epsilon .0 ≡ l .ticks .0 * bAt kept (l .from)
   pub back : epsilon .1 ≡ l .ticks .1 * bAt kept (l .from)
   pub period : event .0 ≡ getD weights (l .from) 0 * aAt kept (l .from)
+  pub none-back : event .1 ≡ 0
   pub numbers : BufferNumbers l weights kept
   pub small : BufferProducts l weights kept
 
@@ -69,13 +71,16 @@ module _ {l : Link} {weights kept : List ℕ} (n : BufferNumbers l weights kept)
       forward = omega (arith, ap (λ (t : Ticks). t .0) x, ap (λ (b : ℕ). l .ticks .0 * b) den-is);
       back = omega (arith, ap (λ (t : Ticks). t .1) x, ap (λ (b : ℕ). l .ticks .1 * b) den-is);
       period = omega (arith, ap (λ (t : Ticks). t .0) y, ap (λ (a : ℕ). getD weights (l .from) 0 * a) num-is);
+      none-back = omega (arith, ap (λ (t : Ticks). t .1) y);
       numbers = n;
       small = buffer-products n;
     }
 
 -- the fewest events at these delays are the buffer's size
-pub delays-size : {l : Link} {weights kept : List ℕ} {sender receiver : Kept} {epsilon event : Ticks} {r : ℕ}
+pub delays-size : {l : Link} {weights kept : List ℕ} {sender receiver : Kept} {epsilon event : Ticks} {r : Events}
     → BufferDelays l weights kept sender receiver epsilon event
-    → r ≡ fewestEvents (sender .start + epsilon .0) (receiver .start + epsilon .1) (event .0)
-    → r ≡ sizeAt l weights kept
-delays-size d e = rw (← d .sent, ← d .received, ← d .forward, ← d .back, ← d .period) e
+    → r ≡ (fewestEvents (sender .start + epsilon .0) (receiver .start + epsilon .1) (event .0 - event .1), 0)
+    → r .0 ≡ sizeAt l weights kept
+delays-size {event = event} d e =
+    let length : event .0 - event .1 ≡ event .0 = omega (arith, d .none-back) in
+    rw (← d .sent, ← d .received, ← d .forward, ← d .back, ← d .period, ← length) (ap (λ (n : Events). n .0) e)

@@ -1,32 +1,54 @@
--- Where `from` is at most `to` no event is needed; the quotient is at most what is divided, so one more fits.
-use Prim.Native.Nat.{_-_}
-use native.Mathlib.Nat.{div-le-self}
+-- Each case gives the fewest events.
 use native.Mathlib.Omega.{arith}
-use borrow.Author.Tests.{le-leb, lt-leb}
 use borrow.Author.Needs.{needs}
-use Rattle.results.specs.Kept.{fewestEvents}
+use Rattle.results.proofs.sizes.Cases.{nothing-size, exact-size, part-size, part-small}
 use Rattle.results.proofs.sizes.fewest.Statement.{statement}
 use Rattle.results.proofs.sizes.fewest.Tie as tie
 
+events-needed-requires : tie.Need-events-needed-requires
+events-needed-requires c κs = search needs
+
+enum-told : tie.Need-enum-told
+enum-told c = search needs
+
+enum-known-case : tie.Need-enum-known-case
+enum-known-case c = search needs
+
+enum-known-case-2 : tie.Need-enum-known-case-2
+enum-known-case-2 c = search needs
+
+add-t7 : tie.Need-add-t7
+add-t7 c =
+    let at-case = c .before .before in
+    let called = at-case .before .before in
+    let part = rw (at-case .case2 .given .1) at (called .events-needed .ensures) in
+    record { fits = omega (arith, part-small (called .before .pre) part, called .before .good) }
+
 returns : tie.Need-returns
-unfolding fewestEvents
-returns c = rw (le-leb _ _ (c .if1 .taken))
-
-sub-result : tie.Need-sub-result
-sub-result c = search needs
-
-sub-result-2 : tie.Need-sub-result-2
-sub-result-2 c = search needs
-
-div-result : tie.Need-div-result
-div-result c = search needs
-
-add-result : tie.Need-add-result
-add-result c = omega (arith, div-le-self (c .before .args .from - c .before .args .to - 1) (c .before .args .period))
+returns c =
+    let called = c .before .before in
+    nothing-size (called .before .pre) (rw (c .enum-told .given .1) at (called .events-needed .ensures))
 
 returns-2 : tie.Need-returns-2
-unfolding fewestEvents
-returns-2 c = rw (lt-leb _ _ (c .if1 .left))
+returns-2 c =
+    let called = c .before .before .before in
+    exact-size (called .before .pre) (rw (c .before .case .given .1) at (called .events-needed .ensures))
+
+returns-3 : tie.Need-returns-3
+returns-3 c =
+    let at-case = c .before .before in
+    let called = at-case .before .before in
+    part-size (called .before .pre) (rw (at-case .case2 .given .1) at (called .events-needed .ensures))
 
 pub fewest-spec : {M : Type 1} → statement M
-fewest-spec = tie.close (tie.spec returns sub-result sub-result-2 div-result add-result returns-2)
+fewest-spec =
+    tie.close
+    (tie.spec
+    events-needed-requires
+    enum-told
+    enum-known-case
+    enum-known-case-2
+    add-t7
+    returns
+    returns-2
+    returns-3)
