@@ -1,7 +1,8 @@
-//! The analysis of document 01 in ordinary Rust, apart from the parts in which its two implementations differ.
+//! The analysis of document 01 and the preview of a join in ordinary Rust, apart from the parts in which the two implementations differ.
 
 use crate::answers;
-use crate::model::{each, read, Components, Fault, Model, Port, MOST_EVENTS, MOST_PORTS, MOST_WEIGHT};
+use crate::join::Joined;
+use crate::model::{each, read, read_inputs, Components, Fault, Model, Port, MOST_EVENTS, MOST_PORTS, MOST_WEIGHT};
 
 const LEAST_ANSWER: usize = 5_120;
 
@@ -130,8 +131,23 @@ pub fn analyse<M: Method>(table: &[u8], answer: &mut [u8]) -> Outcome {
     }
 }
 
-/// The number of a model without a fault, and the bytes written.
+/// The preview of a join: its inputs are read into one model, and that is analysed. All bytes of the answer but the written ones keep their
+/// values.
+pub fn preview<M: Method>(first: &[u8], second: &[u8], added: &[u8], answer: &mut [u8]) -> Joined {
+    let mut model = Model::for_bytes(first.len() + second.len() + added.len());
+    if let Err((Fault { number, place }, input)) = read_inputs(first, second, added, &mut model) {
+        return Joined { number, place, input, written: 0 };
+    }
+    // a fault of an input comes before the short buffer
+    let (number, written) = if answer.len() < LEAST_ANSWER { (1, 0) } else { decide::<M>(&model, answer) };
+    Joined { number, place: 0, input: 0, written }
+}
+
+/// The number of a model that was read without a fault, and the bytes written.
 fn decide<M: Method>(model: &Model, answer: &mut [u8]) -> (u64, usize) {
+    if model.ports.is_empty() {
+        return (12, 0);
+    }
     let mut weighed = Weighed { components: Components::ALONE, weights: [1; MOST_PORTS] };
     match M::weigh(model, &mut weighed) {
         Ok(()) => (),

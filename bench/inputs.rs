@@ -423,14 +423,22 @@ pub struct JoinInput {
     pub room: usize,
 }
 
-/// Two tables, half of the time about as large as they may be together, and links between the ports of both; some inputs empty or faulty.
+/// One model cut in two, any two, or two about as large as they may be together, and links between the ports of both; some inputs, now and then
+/// all, empty, and some faulty.
 pub fn random_join(random: &mut Random) -> JoinInput {
-    let models = if random.percent(50) { [random_model(random), random_model(random)] } else { halves(random) };
-    let ports = models[0].ports.len() + models[1].ports.len();
-    let count = random.pick(&[0, 1, 3, 20]);
-    let links = random_delays(random, ports, count).links;
-    let added = Model { ports: Vec::new(), links };
-    let mut inputs = [models[0].table(), models[1].table(), added.table()];
+    let models = match random.below(100) {
+        0 => std::array::from_fn(|_| Model::new(0, NO_RATE)),
+        1..=49 => cut(random),
+        50..=74 => {
+            let models = [random_model(random), random_model(random)];
+            linked(random, models)
+        }
+        _ => {
+            let models = halves(random);
+            linked(random, models)
+        }
+    };
+    let mut inputs = models.map(|model| model.table());
     for input in &mut inputs {
         match random.below(20) {
             0 => input.clear(),
@@ -444,6 +452,29 @@ pub fn random_join(random: &mut Random) -> JoinInput {
     let room = random.pick(&[5_632, 5_632, size, size + 1, size.saturating_sub(1), shorter]);
     let [first, second, added] = inputs;
     JoinInput { first, second, added, room }
+}
+
+/// A model as two and added links between them, so that the join often is consistent.
+fn cut(random: &mut Random) -> [Model; 3] {
+    let whole = random_model(random);
+    let at = random.below(whole.ports.len() + 1);
+    let (first, second) = whole.ports.split_at(at);
+    let mut parts = [first, second, &[]].map(|ports| Model { ports: ports.to_vec(), links: Vec::new() });
+    for link in whole.links {
+        match (link.from.checked_sub(at), link.to.checked_sub(at)) {
+            (None, None) => parts[0].links.push(link),
+            (Some(from), Some(to)) => parts[1].links.push(Link { from, to, ..link }),
+            _ => parts[2].links.push(link),
+        }
+    }
+    parts
+}
+
+/// Two models and any links between their ports.
+fn linked(random: &mut Random, [first, second]: [Model; 2]) -> [Model; 3] {
+    let count = random.pick(&[0, 1, 3, 20]);
+    let links = random_delays(random, first.ports.len() + second.ports.len(), count).links;
+    [first, second, Model { ports: Vec::new(), links }]
 }
 
 /// Models that together have 64 or 65 ports and now and then 256 or 257 links.
@@ -467,6 +498,12 @@ pub fn join_workload() -> JoinInput {
         model.table()
     };
     JoinInput { first: half(), second: half(), added: Vec::new(), room: 5_632 }
+}
+
+/// The small join whose preview is timed: document 01's models A and D; none added.
+pub fn small_join() -> JoinInput {
+    let d = Model { links: vec![connection(0, 0, -5, 1)], ..Model::new(1, (1, 5)) };
+    JoinInput { first: worked_example().table(), second: d.table(), added: Vec::new(), room: 5_632 }
 }
 
 /// What is timed: a name, a word on what it is, and the table.

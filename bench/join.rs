@@ -1,8 +1,8 @@
 //! The join in ordinary Rust: the records are checked, then copied; only the second table's ends are written anew.
 
-use crate::model::{read_on, u16_at, Behind, Fault, Link, Port, Taker};
+use crate::model::{read_inputs, u16_at, Fault, Link, Port, Taker};
 
-/// What a join came to: the number, its place and input, and how many bytes it wrote.
+/// What a join or its preview came to: the number, its place and input, and how many bytes it wrote.
 pub struct Joined {
     pub number: u64,
     pub place: usize,
@@ -45,13 +45,9 @@ pub fn join(first: &[u8], second: &[u8], added: &[u8], out: &mut [u8]) -> Joined
 /// The bytes written, or the fault and its input; 16 has place and input 0.
 fn try_join(first: &[u8], second: &[u8], added: &[u8], out: &mut [u8]) -> Result<usize, (Fault, u64)> {
     let mut counted = Counted { ports: 0, links: 0 };
-    read_on(first, Behind::NOTHING, &mut counted).map_err(|fault| (fault, 1))?;
-    let by = counted.ports;
+    let by = read_inputs(first, second, added, &mut counted)?;
     let (first_ports, first_links) = first.split_at(PORT_SIZE * by);
-    read_on(second, Behind { port: by, links: Some(counted.links) }, &mut counted).map_err(|fault| (fault, 2))?;
     let (second_ports, second_links) = second.split_at(PORT_SIZE * (counted.ports - by));
-    read_on(added, Behind { port: 0, links: None }, &mut counted).map_err(|fault| (fault, 3))?;
-
     let parts = [first_ports, second_ports, first_links, second_links, added];
     let written = parts.iter().map(|part| part.len()).sum();
     if out.len() < written {

@@ -1,5 +1,5 @@
-//! Compares the proved analysis with two ordinary ones, and the proved join with an ordinary one: first that all answer the same, then how
-//! long they take.
+//! Compares the proved analysis with two ordinary ones, and the proved join and its preview with ordinary ones: first that all answer the same,
+//! then how long they take.
 
 mod analysis;
 mod answers;
@@ -27,8 +27,11 @@ type Join = fn(&[u8], &[u8], &[u8], &mut [u8]) -> Joined;
 const SIDES: [(&str, Analyse); 3] =
     [("proved", proved::analyse), ("ordinary", ordinary::analyse), ("in place", in_place::analyse)];
 const JOIN_SIDES: [(&str, Join); 2] = [("proved", proved::join), ("ordinary", join::join)];
+const PREVIEW_SIDES: [(&str, Join); 2] = [("proved", proved::preview), ("ordinary", ordinary::preview)];
 const COMPARED: usize = 100_000;
 const COMPARED_JOINS: usize = 50_000;
+/// The answer buffers of the compared previews, by turns.
+const PREVIEW_ROOMS: [usize; 4] = [0, 5_119, 5_120, 6_000];
 const SEED: u64 = 20_261_115;
 /// A sample of many short calls is at least about this long, so that reading the clock does not show.
 const SAMPLE_NANOSECONDS: f64 = 5_000.0;
@@ -39,9 +42,11 @@ const MOST_SAMPLES: f64 = 10_000.0;
 fn main() {
     compare();
     compare_joins();
+    compare_previews();
     fit_stack();
     time();
     time_join();
+    time_previews();
 }
 
 fn compare() {
@@ -80,48 +85,102 @@ fn hex(bytes: &[u8]) -> String {
 }
 
 fn compare_joins() {
-    let mut random = inputs::Random::new(SEED);
-    // for each number how often it concerned no record, and a record of each input
-    let mut counts = [[0; 4]; 17];
-    for _ in 0..COMPARED_JOINS {
-        let given = inputs::random_join(&mut random);
-        match same_join(&given, given.room) {
-            Ok((number, input)) => counts[number as usize][input as usize] += 1,
-            Err(why) => {
-                let JoinInput { first, second, added, room } = given;
-                println!("{why}\nout buffer: {room} bytes\nfirst: {}\nsecond: {}\nadded: {}", hex(&first), hex(&second), hex(&added));
-                exit(1);
-            }
-        }
-    }
+    let counts = count_joins(same_join, |_, given| given.room);
     println!("compared: {COMPARED_JOINS} joins, no difference in number, place, input, bytes written or any byte of the out buffer between");
     println!("proved and ordinary; how often each number came, in all and for a record of the first input, the second and the added records");
-    for (number, count) in counts.iter().enumerate().filter(|(_, count)| count.iter().any(|&times| times > 0)) {
+    print_counts(&counts);
+}
+
+fn compare_previews() {
+    let counts = count_joins(same_preview, |turn, _| PREVIEW_ROOMS[turn % PREVIEW_ROOMS.len()]);
+    let [none, short, least, more] = PREVIEW_ROOMS;
+    println!("compared: {COMPARED_JOINS} previews with answer buffers of {none}, {short}, {least} and {more} bytes by turns, no difference in");
+    println!("number, place, input, bytes written or any byte of the answer buffer between proved and the proved join and then analysis,");
+    println!("nor between proved and ordinary, but for the records of 13 and 15, which are free; how often each number came, as above");
+    print_counts(&counts);
+    // 16 is of joins
+    if let Some(number) = (0..counts.len()).find(|&number| number != 16 && counts[number] == [0; 4]) {
+        println!("number {number} did not come");
+        exit(1);
+    }
+}
+
+/// For each number how often it concerned no record, and a record of each input.
+type Counts = [[usize; 4]; 18];
+
+fn print_counts(counts: &Counts) {
+    for (number, count) in counts.iter().enumerate().filter(|&(_, count)| *count != [0; 4]) {
         let [_, first, second, added] = count;
         println!("  number {number:2}: {:6}{first:6}{second:6}{added:6}", count.iter().sum::<usize>());
     }
 }
 
-/// The number and the input that both sides answer with so many bytes of room, or how they differ.
-fn same_join(given: &JoinInput, room: usize) -> Result<(u64, u64), String> {
-    let pattern: Vec<u8> = (0..room).map(|i| (i * 31 + given.first.len()) as u8).collect();
-    let [proved, ordinary] = JOIN_SIDES.map(|(side, join)| {
-        let mut out = pattern.clone();
-        let Joined { number, place, input, written } = join(&given.first, &given.second, &given.added, &mut out);
-        if written > room || out[written..] != pattern[written..] {
-            return Err(format!("join {number}: {side} changes bytes past the {written} written"));
+/// Compares the sides on random joins, each with so much room, and counts what they answer.
+fn count_joins(same: fn(&JoinInput, usize) -> Result<(u64, u64), String>, room: fn(usize, &JoinInput) -> usize) -> Counts {
+    let mut random = inputs::Random::new(SEED);
+    let mut counts = Counts::default();
+    for turn in 0..COMPARED_JOINS {
+        let given = inputs::random_join(&mut random);
+        let room = room(turn, &given);
+        match same(&given, room) {
+            Ok((number, input)) => counts[number as usize][input as usize] += 1,
+            Err(why) => {
+                let JoinInput { first, second, added, .. } = given;
+                println!("{why}\nbuffer: {room} bytes\nfirst: {}\nsecond: {}\nadded: {}", hex(&first), hex(&second), hex(&added));
+                exit(1);
+            }
         }
-        Ok(([number, place as u64, input, written as u64], out))
-    });
-    let ((proved, proved_out), (ordinary, ordinary_out)) = (proved?, ordinary?);
-    if proved != ordinary {
-        return Err(format!("number, place, input and bytes: proved answers {proved:?}, ordinary {ordinary:?}"));
     }
-    let [number, _, input, _] = proved;
-    if proved_out != ordinary_out {
-        return Err(format!("join {number}: proved and ordinary write different bytes"));
+    counts
+}
+
+/// What one side of a join or of a preview came to: number, place, input and bytes written; and its buffer.
+struct Called {
+    side: &'static str,
+    numbers: [u64; 4],
+    buffer: Vec<u8>,
+}
+
+/// Calls a side with so many bytes of room. It must not change bytes past the written ones.
+fn call((side, join): (&'static str, Join), given: &JoinInput, room: usize) -> Result<Called, String> {
+    let pattern: Vec<u8> = (0..room).map(|i| (i * 31 + given.first.len()) as u8).collect();
+    let mut buffer = pattern.clone();
+    let Joined { number, place, input, written } = join(&given.first, &given.second, &given.added, &mut buffer);
+    if written > room || buffer[written..] != pattern[written..] {
+        return Err(format!("number {number}: {side} changes bytes past the {written} written"));
+    }
+    Ok(Called { side, numbers: [number, place as u64, input, written as u64], buffer })
+}
+
+/// The number and the input of two sides, or how they differ. What they write may differ where it is free.
+fn same_call(one: &Called, other: &Called, is_free: bool) -> Result<(u64, u64), String> {
+    let fixed = if is_free { 3 } else { 4 };
+    if one.numbers[..fixed] != other.numbers[..fixed] {
+        let said = |called: &Called| format!("{} answers {:?}", called.side, called.numbers);
+        return Err(format!("number, place, input and bytes: {}, {}", said(one), said(other)));
+    }
+    let [number, _, input, _] = one.numbers;
+    if !is_free && one.buffer != other.buffer {
+        return Err(format!("number {number}: {} and {} write different bytes", one.side, other.side));
     }
     Ok((number, input))
+}
+
+/// The number and the input that both sides answer with so many bytes of room, or how they differ.
+fn same_join(given: &JoinInput, room: usize) -> Result<(u64, u64), String> {
+    let [proved, ordinary] = JOIN_SIDES.map(|side| call(side, given, room));
+    same_call(&proved?, &ordinary?, false)
+}
+
+/// The same of a preview, and of the proved join and analysis one after the other. With 13 and 15 ordinary may show something else.
+fn same_preview(given: &JoinInput, room: usize) -> Result<(u64, u64), String> {
+    let [proved, ordinary] = PREVIEW_SIDES.map(|side| call(side, given, room));
+    let proved = proved?;
+    let in_turn: Join = |first, second, added, answer| {
+        proved::join_and_analyse(first, second, added, &mut [0; proved::TABLE_BYTES], answer)
+    };
+    same_call(&proved, &call(("join and analysis", in_turn), given, room)?, false)?;
+    same_call(&proved, &ordinary?, matches!(proved.numbers[0], 13 | 15))
 }
 
 fn fit_stack() {
@@ -132,7 +191,7 @@ fn fit_stack() {
     let (count, join_count) = (inputs.len(), joins.len());
     stack::answer_all(inputs, joins);
     println!(
-        "stack: {count} inputs answered and {join_count} joins made by proved in a thread with a stack of {} bytes",
+        "stack: {count} inputs answered, {join_count} joins made and previewed by proved in a thread with a stack of {} bytes",
         proved::STACK_BYTES
     );
 }
@@ -203,10 +262,8 @@ fn same_answer(table: &[u8], room: usize) -> Result<Agreed, String> {
 fn time() {
     println!("\ntimes in nanoseconds per call; no side's answer buffer is cleared between calls");
     println!("a sample is so many calls in a row, the sides' samples alternate, the worst is the slowest sample's mean call");
-    println!(
-        "{:16}{:>6}{:>7}{:>8}{:>12}{:>12}{:>12}{:>12}{:>9}{:>9}{:>12}{:>9}",
-        "workload", "answer", "calls", "samples", "proved", "worst", "ordinary", "worst", "ratio", "worst", "in place", "ratio"
-    );
+    print_heading("workload", "answer");
+    println!("{:>12}{:>9}", "in place", "ratio");
     let workloads = inputs::workloads();
     for workload in &workloads {
         time_workload(workload);
@@ -237,11 +294,9 @@ fn time_workload(workload: &inputs::Workload) {
             black_box(analyse(black_box(table), black_box(&mut *answer)));
         })
     });
-    let Measured { calls, samples, times: [(proved, proved_worst), (ordinary, ordinary_worst), (in_place, _)] } = measured;
-    print!("{:16}{number:>6}{calls:>7}{samples:>8}", workload.name);
-    print!("{proved:>12.0}{proved_worst:>12.0}{ordinary:>12.0}{ordinary_worst:>12.0}");
-    print!("{:>9.2}{:>9.2}", proved / ordinary, proved_worst / ordinary_worst);
-    println!("{in_place:>12.0}{:>9.2}", proved / in_place);
+    let Measured { calls, samples, times: [proved, ordinary, (in_place, _)] } = measured;
+    print_sides(workload.name, number, (calls, samples), proved, ordinary);
+    println!("{in_place:>12.0}{:>9.2}", proved.0 / in_place);
 }
 
 fn time_join() {
@@ -281,22 +336,75 @@ fn time_join() {
         })
     });
     let Measured { calls, samples, times: [join, ordinary_join, none, ordinary_none, read, ordinary_read] } = measured;
-    println!(
-        "{:16}{:>6}{:>7}{:>8}{:>12}{:>12}{:>12}{:>12}{:>9}{:>9}",
-        "", "number", "calls", "samples", "proved", "worst", "ordinary", "worst", "ratio", "worst"
-    );
+    print_heading("", "number");
+    println!();
     for (name, number, proved, ordinary) in
         [("join", 0, join, ordinary_join), ("join, no room", 16, none, ordinary_none), ("reading", 2, read, ordinary_read)]
     {
-        print!("{name:16}{number:>6}{calls:>7}{samples:>8}");
-        print!("{:>12.0}{:>12.0}{:>12.0}{:>12.0}", proved.0, proved.1, ordinary.0, ordinary.1);
-        println!("{:>9.2}{:>9.2}", proved.0 / ordinary.0, proved.1 / ordinary.1);
+        print_sides(name, number, (calls, samples), proved, ordinary);
+        println!();
     }
     println!("join, no room: the same join into a buffer of 0 bytes reads all inputs, works out the size and writes nothing");
     println!("reading: the two tables read one after the other by the analysis, each with a byte behind it, which is refused with 2");
     println!("ordinary: the records are checked, then copied; only the second table's ends are written anew");
     println!("join / reading, of the medians: proved {:.2}, ordinary {:.2}", join.0 / read.0, ordinary_join.0 / ordinary_read.0);
     println!("join / join, no room: proved {:.2}, ordinary {:.2}", join.0 / none.0, ordinary_join.0 / ordinary_none.0);
+}
+
+fn time_previews() {
+    println!("\npreviews of joins with no added records, each with an answer buffer of 5,120 bytes");
+    println!("times in nanoseconds per call, sampled as above, all by turns");
+    print_heading("join", "number");
+    println!("{:>16}{:>9}", "join, analysis", "ratio");
+    let joins = [
+        ("two halves", "32 ports and 128 connections each", inputs::join_workload()),
+        ("small", "2 ports and 3 links, 1 port and 1 link: document 01's models A and D", inputs::small_join()),
+    ];
+    for (name, _, given) in &joins {
+        time_preview(name, given);
+    }
+    println!("ordinary: the inputs are read into one model, and that is analysed by the same method as proved");
+    println!("join, analysis: the proved join into {} bytes and the proved analysis one after the other; their median", proved::TABLE_BYTES);
+    println!("ratio: the proved preview over these, of the medians; below 1 the preview is faster");
+    println!("inputs:");
+    for (name, what, JoinInput { first, second, .. }) in &joins {
+        println!("  {name:16}{what} ({} and {} bytes)", first.len(), second.len());
+    }
+}
+
+fn time_preview(name: &str, given: &JoinInput) {
+    let (number, _) = same_preview(given, proved::ANSWER_BYTES).unwrap_or_else(|why| {
+        println!("{name}: {why}");
+        exit(1);
+    });
+    let JoinInput { first, second, added, .. } = given;
+    let mut out = [0; proved::TABLE_BYTES];
+    let mut answer = [0; proved::ANSWER_BYTES];
+    // proved and ordinary preview, and the proved join and analysis
+    let measured = measure(|side, calls| match PREVIEW_SIDES.get(side) {
+        Some((_, preview)) => sample(calls, || {
+            black_box(preview(black_box(first), black_box(second), black_box(added), black_box(&mut answer)));
+        }),
+        None => sample(calls, || {
+            let (first, second, added) = (black_box(first), black_box(second), black_box(added));
+            black_box(proved::join_and_analyse(first, second, added, black_box(&mut out), black_box(&mut answer)));
+        }),
+    });
+    let Measured { calls, samples, times: [proved, ordinary, (in_turn, _)] } = measured;
+    print_sides(name, number, (calls, samples), proved, ordinary);
+    println!("{in_turn:>16.0}{:>9.2}", proved.0 / in_turn);
+}
+
+fn print_heading(name: &str, number: &str) {
+    print!("{name:16}{number:>6}{:>7}{:>8}", "calls", "samples");
+    print!("{:>12}{:>12}{:>12}{:>12}{:>9}{:>9}", "proved", "worst", "ordinary", "worst", "ratio", "worst");
+}
+
+/// What is under the heading: of each side the median and the worst, and their ratios.
+fn print_sides(name: &str, number: u64, (calls, samples): (usize, usize), proved: (f64, f64), ordinary: (f64, f64)) {
+    print!("{name:16}{number:>6}{calls:>7}{samples:>8}");
+    print!("{:>12.0}{:>12.0}{:>12.0}{:>12.0}", proved.0, proved.1, ordinary.0, ordinary.1);
+    print!("{:>9.2}{:>9.2}", proved.0 / ordinary.0, proved.1 / ordinary.1);
 }
 
 /// How many calls a sample has, how many samples were taken of each side, and each side's median and worst.

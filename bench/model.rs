@@ -30,6 +30,11 @@ impl Link {
     pub fn ends(&self) -> (usize, usize) {
         (self.from as usize, self.to as usize)
     }
+
+    /// With so much higher ends.
+    fn moved(self, by: usize) -> Self {
+        Link { from: self.from + by as u8, to: self.to + by as u8, ..self }
+    }
 }
 
 pub struct Model {
@@ -38,6 +43,12 @@ pub struct Model {
 }
 
 impl Model {
+    /// An empty one with room for the records of so many bytes.
+    pub fn for_bytes(bytes: usize) -> Self {
+        // a port takes 8 bytes, the shortest link 16
+        Model { ports: Vec::with_capacity(MOST_PORTS.min(bytes / 8)), links: Vec::with_capacity(MOST_LINKS.min(bytes / 16)) }
+    }
+
     /// The connections with their numbers.
     pub fn connections(&self) -> impl Iterator<Item = (usize, &Link)> {
         self.links.iter().enumerate().filter(|(_, link)| !link.is_buffer)
@@ -94,7 +105,7 @@ impl Components {
     }
 }
 
-/// The number of an input's first fault, and the byte at which the faulty record begins; 12 has place 0.
+/// The number of an input's first fault, and the byte at which the faulty record begins.
 pub struct Fault {
     pub number: u64,
     pub place: usize,
@@ -129,7 +140,7 @@ impl Taker for Model {
 /// How an input stands behind what was taken before it.
 #[derive(Clone, Copy)]
 pub struct Behind {
-    /// its from and to count from this port on
+    /// its from and to count from this port on, those of the taken links from 0
     pub port: usize,
     /// ports come only while there are so many links; none come where there is no number
     pub links: Option<usize>,
@@ -141,15 +152,19 @@ impl Behind {
 
 /// The model of a table, or its first fault.
 pub fn read(table: &[u8]) -> Result<Model, Fault> {
-    // a port takes 8 bytes, the shortest link 16
-    let ports = Vec::with_capacity(MOST_PORTS.min(table.len() / 8));
-    let links = Vec::with_capacity(MOST_LINKS.min(table.len() / 16));
-    let mut model = Model { ports, links };
+    let mut model = Model::for_bytes(table.len());
     read_on(table, Behind::NOTHING, &mut model)?;
-    if model.ports.is_empty() {
-        return Err(Fault { number: 12, place: 0 });
-    }
     Ok(model)
+}
+
+/// Takes the records of a join's inputs in turn. Answers how many ports are the first table's, or the first fault and its input.
+#[inline(always)]
+pub fn read_inputs(first: &[u8], second: &[u8], added: &[u8], taker: &mut impl Taker) -> Result<usize, (Fault, u64)> {
+    read_on(first, Behind::NOTHING, taker).map_err(|fault| (fault, 1))?;
+    let first_ports = taker.ports();
+    read_on(second, Behind { port: first_ports, links: Some(taker.links()) }, taker).map_err(|fault| (fault, 2))?;
+    read_on(added, Behind { port: 0, links: None }, taker).map_err(|fault| (fault, 3))?;
+    Ok(first_ports)
 }
 
 /// Takes the records of an input, or answers its first fault.
@@ -197,14 +212,14 @@ fn read_record(rest: &[u8], behind: Behind, taker: &mut impl Taker) -> Result<us
             if !(-MOST_EVENTS..=MOST_EVENTS).contains(&link.events) {
                 return Err(11);
             }
-            taker.take_link(link);
+            taker.take_link(link.moved(behind.port));
         }
         3 => {
             let record: &[u8; 14] = record.try_into().map_err(|_| 4u64)?;
             if taker.links() == MOST_LINKS {
                 return Err(7);
             }
-            taker.take_link(read_link(record, taker.ports() - behind.port, true)?);
+            taker.take_link(read_link(record, taker.ports() - behind.port, true)?.moved(behind.port));
         }
         _ => return Err(3),
     }

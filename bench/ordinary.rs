@@ -3,10 +3,15 @@
 
 use crate::analysis::{self, Cycle, Method, Outcome, Period, Step, Unweighed, Weighed};
 use crate::exponents::{multiply, COLUMNS, PRIME, PRIMES};
+use crate::join::Joined;
 use crate::model::{each, Components, Link, Model, MOST_PORTS, MOST_WEIGHT};
 
 pub fn analyse(table: &[u8], answer: &mut [u8]) -> Outcome {
     analysis::analyse::<Rounds>(table, answer)
+}
+
+pub fn preview(first: &[u8], second: &[u8], added: &[u8], answer: &mut [u8]) -> Joined {
+    analysis::preview::<Rounds>(first, second, added, answer)
 }
 
 /// Labels each port with the lowest port joined to it: passes over the links give both ends the smaller label, until one changes

@@ -1,4 +1,4 @@
-//! The proved side: the analysis and the join of the static library, through its Rust wrapper.
+//! The proved side: the analysis, the join and the preview of the static library, through its Rust wrapper.
 
 #[path = "../bindings/vundayre.rs"]
 mod vundayre;
@@ -15,4 +15,19 @@ pub fn analyse(table: &[u8], answer: &mut [u8]) -> Outcome {
 pub fn join(first: &[u8], second: &[u8], added: &[u8], out: &mut [u8]) -> Joined {
     let joined = vundayre::join(first, second, added, out);
     Joined { number: joined.number, place: joined.place, input: joined.input, written: joined.table.len() }
+}
+
+pub fn preview(first: &[u8], second: &[u8], added: &[u8], answer: &mut [u8]) -> Joined {
+    let preview = vundayre::preview(first, second, added, answer);
+    Joined { number: preview.number, place: preview.place, input: preview.input, written: preview.records.len() }
+}
+
+/// What a preview does, by a join into this buffer and an analysis of what was written there.
+pub fn join_and_analyse(first: &[u8], second: &[u8], added: &[u8], out: &mut [u8; TABLE_BYTES], answer: &mut [u8]) -> Joined {
+    let joined = join(first, second, added, out);
+    if joined.number != 0 {
+        return joined;
+    }
+    let Outcome { number, place, written } = analyse(&out[..joined.written], answer);
+    Joined { number, place, input: 0, written }
 }

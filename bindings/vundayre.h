@@ -13,8 +13,8 @@ extern "C" {
 /* An answer buffer of this many bytes suffices for every table; a shorter one is refused with number 1. */
 #define VUNDAYRE_ANSWER_BYTES 5120
 
-/* A thread with a stack of this many bytes can analyse every table and join any two (the frames of the analysis take 90,432 of them, those of
-   the join 9,968, and neither recurses; bench/run tries it out; it is not proved). */
+/* A thread with a stack of this many bytes can analyse every table and join and preview any two (the frames of the analysis take 91,040 of
+   them, those of the join 10,056, those of the preview 91,120, and none recurses; bench/run tries it out; it is not proved). */
 #define VUNDAYRE_STACK_BYTES 98304
 
 /* A buffer of this many bytes suffices for every joined table; a shorter one may be refused with number 16. */
@@ -40,13 +40,14 @@ struct vundayre_outcome {
 struct vundayre_outcome vundayre_analyse(const uint8_t *table, size_t table_bytes, uint8_t *answer, size_t answer_bytes);
 
 struct vundayre_joined {
-    /* 0 is joined; 2 to 11, document 01's numbers, and 16, the out buffer is shorter than the joined table, are refusals. */
+    /* Of a join 0 is joined; 2 to 11, document 01's numbers, and 16, the out buffer is shorter than the joined table, are refusals. Of a
+       preview the join's 2 to 11, else what the analysis says of the joined table: 0, 1, 12 to 15 or 17. */
     uint64_t number;
     /* Of 2 to 11 the byte at which the faulty record begins, counted from 0 within its own input; of every other number 0. */
     size_t place;
     /* Of 2 to 11 the input of the faulty record: 1 the first, 2 the second, 3 the added records; of every other number 0. */
     uint64_t input;
-    /* How many bytes of the out buffer were written, from its first byte on. */
+    /* How many bytes of the out buffer, of a preview the answer buffer, were written, from its first byte on. */
     size_t written;
 };
 
@@ -60,6 +61,18 @@ struct vundayre_joined {
  */
 struct vundayre_joined vundayre_join(const uint8_t *first, size_t first_bytes, const uint8_t *second, size_t second_bytes, const uint8_t *added,
                                      size_t added_bytes, uint8_t *out, size_t out_bytes);
+
+/*
+ * Previews a join: analyses the table that vundayre_join makes of these inputs, and makes no such table. It equals the join into a buffer of
+ * VUNDAYRE_TABLE_BYTES and then the analysis of what was written there, refusals and their order included: 2 to 11, of an input, come before
+ * 1, and 16 never comes. 13 and 15 may show another loop, floor or block. What is shown has the numbers of the joined table.
+ *
+ * 2 to 11 write nothing, every other number what it writes in the analysis. Bytes of the answer buffer past the written ones keep what they
+ * held. No pointer may be null, also where its length is 0. The inputs are only read and may be one and the same memory; the answer buffer may
+ * overlap none of them. It keeps nothing between calls and may be called from several threads.
+ */
+struct vundayre_joined vundayre_preview(const uint8_t *first, size_t first_bytes, const uint8_t *second, size_t second_bytes,
+                                        const uint8_t *added, size_t added_bytes, uint8_t *answer, size_t answer_bytes);
 
 #ifdef __cplusplus
 }

@@ -7,8 +7,8 @@
 /// An answer buffer of this many bytes suffices for every table; a shorter one is refused with number 1.
 pub const ANSWER_BYTES: usize = 5120;
 
-/// A thread with a stack of this many bytes can analyse every table and join any two (the frames of the analysis take 90,432 of them, those
-/// of the join 9,968, and neither recurses; `bench/run` tries it out; it is not proved).
+/// A thread with a stack of this many bytes can analyse every table and join and preview any two (the frames of the analysis take 91,040 of
+/// them, those of the join 10,056, those of the preview 91,120, and none recurses; `bench/run` tries it out; it is not proved).
 pub const STACK_BYTES: usize = 98_304;
 
 /// A buffer of this many bytes suffices for every joined table; a shorter one may be refused with number 16.
@@ -51,6 +51,18 @@ pub struct Joined<'a> {
     pub table: &'a [u8],
 }
 
+/// What came of the preview of a join.
+pub struct Preview<'a> {
+    /// The join's 2 to 11, else what the analysis says of the joined table: 0, 1, 12 to 15 or 17.
+    pub number: u64,
+    /// Of 2 to 11 the byte at which the faulty record begins, counted from 0 within its own input; of every other number 0.
+    pub place: usize,
+    /// Of 2 to 11 the input of the faulty record: 1 the first, 2 the second, 3 the added records; of every other number 0.
+    pub input: u64,
+    /// What was written at the front of the answer buffer.
+    pub records: &'a [u8],
+}
+
 unsafe extern "C" {
     fn vundayre_analyse(table: *const u8, table_bytes: usize, answer: *mut u8, answer_bytes: usize) -> Outcome;
 
@@ -64,6 +76,36 @@ unsafe extern "C" {
         out: *mut u8,
         out_bytes: usize,
     ) -> JoinOutcome;
+
+    fn vundayre_preview(
+        first: *const u8,
+        first_bytes: usize,
+        second: *const u8,
+        second_bytes: usize,
+        added: *const u8,
+        added_bytes: usize,
+        answer: *mut u8,
+        answer_bytes: usize,
+    ) -> JoinOutcome;
+}
+
+type JoinCall = unsafe extern "C" fn(*const u8, usize, *const u8, usize, *const u8, usize, *mut u8, usize) -> JoinOutcome;
+
+/// Calls the join or the preview.
+fn call(function: JoinCall, first: &[u8], second: &[u8], added: &[u8], buffer: &mut [u8]) -> JoinOutcome {
+    // SAFETY: the pointers of slices are never null, both only read the inputs, and a mutable slice overlaps no shared one.
+    unsafe {
+        function(
+            first.as_ptr(),
+            first.len(),
+            second.as_ptr(),
+            second.len(),
+            added.as_ptr(),
+            added.len(),
+            buffer.as_mut_ptr(),
+            buffer.len(),
+        )
+    }
 }
 
 /// Analyses a table, any bytes at all.
@@ -81,18 +123,17 @@ pub fn analyse<'a>(table: &[u8], answer: &'a mut [u8]) -> Answer<'a> {
 ///
 /// A refusal writes nothing. Bytes of `out` past the table keep what they held. The inputs may be one and the same.
 pub fn join<'a>(first: &[u8], second: &[u8], added: &[u8], out: &'a mut [u8]) -> Joined<'a> {
-    // SAFETY: the pointers of slices are never null, the inputs are only read, and a mutable slice overlaps no shared one.
-    let outcome = unsafe {
-        vundayre_join(
-            first.as_ptr(),
-            first.len(),
-            second.as_ptr(),
-            second.len(),
-            added.as_ptr(),
-            added.len(),
-            out.as_mut_ptr(),
-            out.len(),
-        )
-    };
-    Joined { number: outcome.number, place: outcome.place, input: outcome.input, table: &out[..outcome.written] }
+    let JoinOutcome { number, place, input, written } = call(vundayre_join, first, second, added, out);
+    Joined { number, place, input, table: &out[..written] }
+}
+
+/// Previews a join: analyses the table that `join` makes of these inputs, and makes no such table. It equals the join into a buffer of
+/// `TABLE_BYTES` and then the analysis of what was written there, refusals and their order included: 2 to 11, of an input, come before 1, and
+/// 16 never comes. 13 and 15 may show another loop, floor or block. What is shown has the numbers of the joined table.
+///
+/// 2 to 11 write nothing, every other number what it writes in the analysis. Bytes of `answer` past the records keep what they held. The inputs
+/// may be one and the same.
+pub fn preview<'a>(first: &[u8], second: &[u8], added: &[u8], answer: &'a mut [u8]) -> Preview<'a> {
+    let JoinOutcome { number, place, input, written } = call(vundayre_preview, first, second, added, answer);
+    Preview { number, place, input, records: &answer[..written] }
 }

@@ -6,38 +6,18 @@ order, the same links, and the answers to them the same number and the same port
 with --separate joiner.py, reader.py and solver.py do. The status is 1 where some differ."""
 import argparse
 import random
-import struct
 import sys
 from collections import Counter
 
-from joiner import join, moved
-from model import Model, link_bytes, port_bytes
+from join_inputs import random_parts
+from joiner import ends, join, moved
+from model import Model
 from programs import answers, built, joins
 from random_models import large, small
 from reader import Before, read_run
 from separate import separate_answer
 
 TRIPLES = 500
-
-
-def ends(link):
-    return struct.unpack_from('<HH', link, 4)
-
-
-def random_triple(model):
-    """Three tables and added records that join to a model: its ports are cut into three runs, and a link within one may be of that table."""
-    count = len(model.ports)
-    cuts = [0, *sorted(random.randint(0, count) for _ in range(2)), count]
-    tables, added = [], []
-    for low, high in zip(cuts, cuts[1:]):
-        tables.append([port_bytes(port) for port in model.ports[low:high]])
-    for link in map(link_bytes, model.links):
-        at = [max(n for n in range(3) if cuts[n] <= end) for end in ends(link)]
-        if at[0] == at[1] and random.random() < 0.7:
-            tables[at[0]].append(moved(link, -cuts[at[0]]))
-        else:
-            added.append(link)
-    return [b''.join(table) for table in tables], cuts, added
 
 
 def case(first, second, added):
@@ -108,7 +88,7 @@ def main():
             return answers(given.models, tables)
     random.seed(20261117)
     models = [Model(), *(large() if random.random() < 0.1 else small() for _ in range(TRIPLES - 1))]
-    tables = both_ways(joined, [random_triple(model) for model in models])
+    tables = both_ways(joined, [random_parts(model, 3) for model in models])
     texts = answered([table for pair in tables for table in pair])
     numbers, reordered, differ = Counter(), 0, 0
     for at, (left, right) in enumerate(tables):

@@ -4,9 +4,14 @@ import struct
 from reader import Before, read_run
 
 
+def ends(link):
+    """From and to of a link's record."""
+    return struct.unpack_from('<HH', link, 4)
+
+
 def moved(link, by):
     """A link's record with from and to so many numbers higher; every other byte is the same."""
-    start, end = struct.unpack_from('<HH', link, 4)
+    start, end = ends(link)
     return link[:4] + struct.pack('<HH', start + by, end + by) + link[8:]
 
 

@@ -20,10 +20,10 @@ from programs import BASE, answers, built, tables_input
 from random_models import FAST, UNRATED, dense_unrated, faulty_table, large, small
 from ratios import weights
 from reader import first_fault
-from separate import separate_answer
+from separate import model_of, separate_answer
 from shown import Wrong, check_blocked, check_loop
 from solver import analyse, answer_line, numbers_by_component, printed
-from table_text import read_text, text_of
+from table_text import read_text
 
 random.seed(20261115)
 
@@ -204,7 +204,7 @@ def examples():
     models = {name: read_text(text) for name, text in example_files('.txt')}
     added = read_text(dict(example_files('.added'))['wires.added'], added=True)
     *_, table = join(*map(table_bytes, (models['front.txt'], models['decoder.txt'], added)), len(FULL))
-    return [*models.items(), ('receiver.joined', read_text(text_of(table)))]
+    return [*models.items(), ('receiver.joined', model_of(table))]
 
 
 def faulty_examples():

@@ -1,4 +1,4 @@
-# What check and join share; they source this. `name` is the script's name and `base` the repository.
+# What check, join and preview share; they source this. `name` is the script's name and `base` the repository.
 
 fail() {
     printf '%s: %s\n' "$name" "$*" >&2
@@ -32,6 +32,17 @@ records_of() {
     fi
 }
 
+# Writes the records of files $1, $2 and $3, two tables and what is added, to the files first, second and added of a new $room.
+join_records() {
+    for file in "$@"; do
+        need_file "$file"
+    done
+    make_room
+    records_of "$1" "$room/first"
+    records_of "$2" "$room/second"
+    records_of "$3" "$room/added" --added
+}
+
 # Sets `program` to the program of crate $1. It is built where it is missing, or where something is newer than the last build that passed. That
 # time is kept apart: rt goes by contents, and leaves a program that need not change as old as it is.
 need_program() {
@@ -45,4 +56,15 @@ need_program() {
         (cd "$base" && rt check "$1") < /dev/null >&2 || fail "the $name program was not built"
         touch -r "$room/begun" "$built"
     fi
+}
+
+# Prints `answer`, what the program said, and sets `status`: 0 consistent (answer 0), 1 any other answer.
+print_answer() {
+    case $answer in
+    'answer unread') fail "the $name program could not read its input" ;;
+    'answer 0'*) status=0 ;;
+    'answer '*) status=1 ;;
+    *) fail "the $name program gave no answer" ;;
+    esac
+    printf '%s\n' "$answer" 2> /dev/null || fail 'the answer was not written'
 }

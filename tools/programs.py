@@ -39,21 +39,40 @@ def answers(program, tables):
     return texts
 
 
-def joins_input(cases):
-    """What `join_cases` reads: of each (first, second, added, room) the room and the three lengths in four bytes each, then the inputs."""
-    return b''.join(struct.pack('<4I', room, *map(len, inputs)) + b''.join(inputs) for *inputs, room in cases)
+# The calls of `join_cases`.
+JOIN, PREVIEW = 0, 1
 
 
-def joins(program, cases):
-    """(number, place, input, table) of each case: `join_cases` prints a line with the first three and the table's length, then the whole room."""
-    printed, at, results = output(program, joins_input(cases)), 0, []
-    for number_of_case, (*_, room) in enumerate(cases):
-        line = re.compile(rb'(\d+) (\d+) (\d+) (\d+)\n').match(printed, at)
-        if not line or len(printed) < line.end() + room or int(line[4]) > room:
-            sys.exit(f'{program}: no answer to case {number_of_case}: {printed[at:at + 80]!a}')
-        number, place, which, written = map(int, line.groups())
-        results.append((number, place, which, printed[line.end():line.end() + written]))
-        at = line.end() + room
+def calls_input(calls):
+    """What `join_cases` reads: of each (call, first, second, added, room) the call, the room and the three lengths in four bytes each, then the
+    inputs."""
+    return b''.join(struct.pack('<5I', call, room, *map(len, inputs)) + b''.join(inputs) for call, *inputs, room in calls)
+
+
+def called(program, calls):
+    """(number, place, input, written bytes) of each call. `join_cases` prints a line with the first three, how many bytes it wrote and how many
+    behind them changed, of which there may be none; then the written ones."""
+    printed, at, results = output(program, calls_input(calls)), 0, []
+    line = re.compile(b' '.join([rb'(0|[1-9]\d*)'] * 5) + b'\n')
+    for number_of_call, (*_, room) in enumerate(calls):
+        match = line.match(printed, at)
+        if not match:
+            sys.exit(f'{program}: no answer to call {number_of_call}: {printed[at:at + 80]!a}')
+        number, place, which, length, changed = map(int, match.groups())
+        at = match.end() + length
+        if length > room or at > len(printed) or changed:
+            sys.exit(f'{program}: {match[0]!a} is no answer to call {number_of_call} with {room} bytes of room')
+        results.append((number, place, which, printed[match.end():at]))
     if at != len(printed):
         sys.exit(f'{program}: it prints {len(printed) - at} bytes behind the last answer')
     return results
+
+
+def calls_output(results):
+    """What `join_cases` prints of such results."""
+    return b''.join(f'{number} {place} {which} {len(written)} 0\n'.encode() + written for number, place, which, written in results)
+
+
+def joins(program, cases):
+    """The results of joins, each (first, second, added, room)."""
+    return called(program, [(JOIN, *case) for case in cases])

@@ -1,5 +1,5 @@
-//! Joins three named files, the first table, the second and the added records, and prints what came of it: the number, its place and input,
-//! and the bytes of the joined table.
+//! Joins three named files, the first table, the second and the added records, previews the join, and prints what came of each: the number,
+//! its place and input, and the bytes written.
 
 use std::fs::File;
 
@@ -22,5 +22,8 @@ fn main() -> std::io::Result<()> {
     let mut out = [0; vundayre::TABLE_BYTES];
     let vundayre::Joined { number, place, input, table } = vundayre::join(first, second, added, &mut out);
     println!("Rust: joined {number} at {place} of input {input}, {} bytes", table.len());
+    let mut answer = [0; vundayre::ANSWER_BYTES];
+    let vundayre::Preview { number, place, input, records } = vundayre::preview(first, second, added, &mut answer);
+    println!("Rust: preview {number} at {place} of input {input}, {} bytes", records.len());
     Ok(())
 }

@@ -1,18 +1,15 @@
--- What each way through the analysis comes to.
+-- What the ratios come to, numbers 13 and 14, and the slices of a table with the room for its work.
 use Prim.Native.Nat.{ℕ, zero, suc, _+_, _*_, _≤_, _<_}
-use mathlib.Core.Path.{_≡_, refl, ap, _∙_}
-use mathlib.Core.Logic.{_≢_, inl}
+use mathlib.Core.Path.{_≡_, refl}
 use mathlib.Core.Bool.{cond}
 use mathlib.Core.List.{List, []}
 use native.Mathlib.Omega.{arith}
 use lib.Dec.{eqb}
 use lib.ListN.{length, getD, set, take, drop}
-use borrow.Author.Tests.{lt-ltb, le-ltb}
 use lib.Seq.{drop-cons, getD-set-same, getD-set-other}
 use Rattle.specification.specs.Bytes.{Written, loopAnswer}
+use Rattle.records.specs.WrittenLaws.{written-none}
 use Rattle.table.specs.WellFormed.{WellFormed}
-use Rattle.table.specs.FaultLaws.{table-no-place}
-use Rattle.specification.specs.Reading.{readTable}
 use Rattle.specification.specs.Table.{Table, portCount, linkCount}
 use Rattle.order.specs.Order.{Sorted}
 use Rattle.forest.specs.Loop.{stepsFrom}
@@ -20,17 +17,10 @@ use Rattle.specification.specs.Ratios.{Overweight}
 use Rattle.weights.specs.Ratios.{LoopNumbers, numberOf, IsRatios}
 use Rattle.weights.specs.declared.ratios.Ratios.{Ratios}
 use Rattle.weights.specs.declared.ratios.Agreement.the-variants.{Agreeing, Disagreeing, OverLimit}
-use Rattle.specification.specs.Answers.{refused, disagreeing, overweight, loopNumbers, leastRoom, answerPlace}
-use Rattle.demands.specs.Room.{fits-room}
+use Rattle.specification.specs.Answers.{disagreeing, overweight, loopNumbers}
 use Rattle.graph.specs.Arranged.{Labelled, mostMembers, linkOwners}
 use Rattle.analysis.specs.Decided.{Decided}
-use Rattle.specification.specs.Analysed.{Analysed}
 use Rattle.analysis.specs.Timed.{MembersSorted, TableSlices}
-use Rattle.specification.specs.declared.Outcome.{Outcome}
-
--- nothing is written
-pub written-none : (xs : List ℕ) → Written [] xs xs 0
-written-none xs = record { contents = refl; counted = refl }
 
 -- ---- what the ratios come to
 module _ {t : Table} {r : Ratios} {numbers numbers′ : List ℕ} (h : IsRatios t r numbers numbers′) where
@@ -107,56 +97,3 @@ table-slices {labels = labels} {numbers₀ = numbers₀} {new = new} {ends = end
   };
   enough = omega arith;
 }
-
--- ---- a byte string
-pub analysed-short : (s before : List ℕ) → length before < leastRoom → Analysed s before before (record { number = 1; place = 0; written = 0 })
-unfolding answerPlace
-analysed-short s before h = record {
-  answer = refused 1;
-  right = record {
-    short = λ k. refl;
-    faulty = λ k f. absurd (omega arith);
-    right = λ k e. absurd (omega arith);
-  };
-  number-is = refl;
-  place-is = rw (lt-ltb (length before) leastRoom h);
-  records-are = written-none before;
-  fits = tt;
-}
-
-pub analysed-faulty : (s before : List ℕ) (n place : ℕ) → n ≡ readTable s .number → place ≡ readTable s .place → n ≢ 0 → leastRoom ≤ length before
-    → Analysed s before before (record { number = n; place = place; written = 0 })
-unfolding answerPlace
-analysed-faulty s before n place e p f h = record {
-  answer = refused n;
-  right = record {
-    short = λ k. absurd (omega arith);
-    faulty = λ k g. ap refused e;
-    right = λ k g. absurd (f (e ∙ g));
-  };
-  number-is = refl;
-  place-is = rw (le-ltb (length before) leastRoom h) p;
-  records-are = written-none before;
-  fits = tt;
-}
-
-pub analysed-decided : (s : List ℕ) {before after : List ℕ} {t : Table} {r : Outcome} → t ≡ readTable s .table → readTable s .number ≡ 0 → leastRoom ≤ length before
-    → Decided t before after r
-    → Analysed s before after r
-unfolding answerPlace
-analysed-decided s {before} e z h d = record {
-  answer = d .answer;
-  right = record {
-    short = λ k. absurd (omega arith);
-    faulty = λ k f. absurd (f z);
-    right = λ k g. rw (← e) (d .right);
-  };
-  number-is = d .number-is;
-  place-is = rw (le-ltb (length before) leastRoom h, table-no-place s (inl (omega (arith, z)))) (d .place-is);
-  records-are = rw (← e) (d .records-are);
-  fits = rw (← e) (d .fits);
-}
-
--- the least answer buffer has room for what is written
-pub written-room : {t : Table} {before after : List ℕ} {r : Outcome} → WellFormed t → Decided t before after r → r .written ≤ leastRoom
-written-room {t} formed d = omega (arith, d .records-are .counted, fits-room {x = d .answer} formed (d .right) .fits)

@@ -70,8 +70,8 @@ fn read_in(s: &[u8], ports: &mut [u32], links: &mut [u32], answer: &mut [u8]) ->
     decide(&ports[..port_end], &links[..link_end], answer)
 }
 
-// 13, 14, or what the periods come to.
-fn decide(ports: &[u32], links: &[u32], answer: &mut [u8]) -> Outcome
+// A table in slices: 13, 14, or what the periods come to.
+pub fn decide(ports: &[u32], links: &[u32], answer: &mut [u8]) -> Outcome
     requires { ⌜ WellFormed (tableOf (now ports) (now links)) ⌝ }
     requires { ⌜ leastRoom ≤ length (now answer) ⌝ }
     ensures { λ r. ⌜ Decided (tableOf (now (ports .entry)) (now (links .entry))) (now (answer .entry)) (now (answer .exit)) r ⌝ }

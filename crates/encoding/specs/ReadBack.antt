@@ -1,18 +1,18 @@
 -- A table that was written as bytes is read back.
 use Prim.Native.Nat.{ℕ, zero, suc, _+_, _≤_, _<_}
-use mathlib.Core.Path.{_≡_, sym, _∙_}
+use mathlib.Core.Path.{_≡_, sym, ap, _∙_}
 use mathlib.Core.Bool.{true, cond}
 use mathlib.Core.List.{List, [], _∷_, _++_, append-assoc, append-nil, flatMap}
 use native.Mathlib.Omega.{arith}
 use lib.ListN.{length, length-append}
-use borrow.Author.Tests.{le-leb}
+use borrow.Author.Tests.{le-leb, eq-eqb, ne-eqb}
 use Rattle.specification.specs.Encoding.{encodePort, encodeLink, encodePorts, encodeLinks, encodeTable}
 use Rattle.specification.specs.Table.{Table, portCount, linkCount, port, link, mostPorts, mostLinks}
-use Rattle.specification.specs.Reading.{recordAt, withPort, withLink, readFrom, readOn}
+use Rattle.specification.specs.Reading.{recordAt, Reading, withPort, withLink, readFrom, readOn, start, somePort, readTable}
 use Rattle.specification.specs.declared.Port.{Port}
 use Rattle.specification.specs.declared.Link.{Link}
 use Rattle.specification.specs.declared.Before.{Before}
-use Rattle.table.specs.WellFormed.{PortFits, LinkFits, OneSided}
+use Rattle.table.specs.WellFormed.{PortFits, LinkFits, OneSided, WellFormed}
 use Rattle.table.specs.ReadingLaws.{fits-more, bound-decides-nothing}
 use Rattle.encoding.specs.EncodingLaws.{port-length, link-length}
 use Rattle.encoding.specs.RecordBack.{port-back, link-back}
@@ -84,3 +84,30 @@ unfolding encodeTable
 read-back b t w =
     let bound = length (encodeTable t) + portCount t + linkCount t + 1 in
     sym (bound-decides-nothing (encodeTable t) bound b (omega arith)) ∙ table-back (t .ports) (t .links) [] bound b w (omega arith)
+
+-- ---- a table of its own: what the analysis reads of its bytes
+module _ {t : Table} (w : Writable start t) where
+  table-read : readTable (encodeTable t) ≡ somePort (record { number = 0; place = 0; table = t })
+  unfolding readTable
+  table-read = rw (read-back start t w)
+
+  pub table-read-back : readTable (encodeTable t) .table ≡ t
+  table-read-back = ap (λ (r : Reading). r .table) table-read
+
+  pub no-fault-read : readTable (encodeTable t) .place ≡ 0
+  no-fault-read = ap (λ (r : Reading). r .place) table-read
+
+  pub no-port-read : portCount t ≡ 0 → readTable (encodeTable t) .number ≡ 12
+  no-port-read e = rw (table-read, eq-eqb (portCount t) 0 e)
+
+  pub some-port-read : 0 < portCount t → readTable (encodeTable t) .number ≡ 0
+  some-port-read some = rw (table-read, ne-eqb (portCount t) 0 (λ e. omega (arith, e)))
+
+  pub writable-formed : 0 < portCount t → WellFormed t
+  writable-formed some = record {
+    some-port = some;
+    few-ports = omega (arith, w .few-ports);
+    few-links = omega (arith, w .few-links);
+    ports = w .ports;
+    links = λ k h. fits-more (portCount t) (w .links k h) (omega arith);
+  }

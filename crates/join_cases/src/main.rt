@@ -1,12 +1,21 @@
-// Prints what each of the joins on standard input comes to. A join is four numbers of four bytes, the room for the table and the lengths of
-// the three inputs, then the inputs. The room is filled with one byte before each join, and printed whole behind the numbers.
+// Prints what each of the joins and previews on standard input comes to. A case is five numbers of four bytes: the call, 0 a join and 1 a
+// preview, the room for the table or the answer, and the lengths of the three inputs; then the inputs. The room is filled with one byte before
+// each call. Printed are what is returned and how many bytes behind the written ones changed, then the written ones.
 ghost use Prim.Native.Nat.{_≤_};
 ghost use mathlib.Core.Path.{_≡_};
 ghost use lib.ListN.{length};
+ghost use Rattle.join_cases.specs.Changed.{changedByte, changedBytes};
 use records::read::number_at;
+use specification::JoinOutcome;
 
-// More joins than this are not read.
+// More cases than this are not read.
 const MOST: usize = 100000;
+
+// The number of the call of a join; every other is that of a preview.
+const JOIN: u64 = 0;
+
+// Before a call each byte of the room is this one, which no record has everywhere, so that a byte that was not to change shows.
+const MARK: u8 = 165;
 
 fn main() {
     let mut space = io::large_buffer();
@@ -29,19 +38,43 @@ fn run(space: &mut [u8], room: &mut [u8])
     }
 }
 
-// Reads one join and prints what it comes to. Says whether there was one.
+// The numbers at the front of a case; the second input and the added records begin at these places behind them.
+struct Case {
+    call: u64,
+    room: usize,
+    second: usize,
+    added: usize,
+    end: usize,
+}
+
+fn numbers_of(head: &[u8]) -> Case
+    requires { ⌜ 20 ≤ length (now head) ⌝ }
+    ensures { λ r. ⌜ r .second ≤ r .added ⌝ }
+    ensures { λ r. ⌜ r .added ≤ r .end ⌝ }
+{
+    let second = number_at(head, 8, 4) as usize;
+    let added = second + number_at(head, 12, 4) as usize;
+    Case {
+        call: number_at(head, 0, 4),
+        room: number_at(head, 4, 4) as usize,
+        second,
+        added,
+        end: added + number_at(head, 16, 4) as usize,
+    }
+}
+
+// Reads one case and prints what it comes to. Says whether there was one.
 fn next(space: &mut [u8], room: &mut [u8]) -> bool
     requires { ⌜ 65536 ≡ length (now space) ⌝ }
     requires { ⌜ 65536 ≡ length (now room) ⌝ }
 {
-    let head = input::fill(libc::STDIN_FILENO, &mut space[..16]);
-    if head.count < 16 {
+    let head = input::fill(libc::STDIN_FILENO, &mut space[..20]);
+    if head.count < 20 {
         return false;
     }
-    let size = number_at(space, 0, 4) as usize;
-    let second = number_at(space, 4, 4) as usize;
-    let added = second + number_at(space, 8, 4) as usize;
-    let end = added + number_at(space, 12, 4) as usize;
+    let case = numbers_of(space);
+    let size = case.room;
+    let end = case.end;
     if 65536 < size {
         return false;
     }
@@ -52,32 +85,73 @@ fn next(space: &mut [u8], room: &mut [u8]) -> bool
     if read.count < end {
         return false;
     }
-    print_join(&space[..end], second, added, &mut room[..size])
+    print_case(case, &space[..end], &mut room[..size])
 }
 
-// The join of the inputs that stand in one slice, the second and the added records from these places on.
-fn print_join(s: &[u8], second: usize, added: usize, room: &mut [u8]) -> bool
-    requires { ⌜ second ≤ added ⌝ }
-    requires { ⌜ added ≤ length (now s) ⌝ }
+fn print_case(case: Case, s: &[u8], room: &mut [u8]) -> bool
+    requires { ⌜ case .second ≤ case .added ⌝ }
+    requires { ⌜ case .added ≤ length (now s) ⌝ }
 {
     mark(room);
-    let r = joins::join(&s[..second], &s[second..added], &s[added..], room);
-    io::print_decimal(libc::STDOUT_FILENO, r.number);
-    io::write_all(libc::STDOUT_FILENO, b" ");
-    io::print_decimal(libc::STDOUT_FILENO, r.place as u64);
-    io::write_all(libc::STDOUT_FILENO, b" ");
-    io::print_decimal(libc::STDOUT_FILENO, r.input);
-    io::write_all(libc::STDOUT_FILENO, b" ");
-    io::print_decimal(libc::STDOUT_FILENO, r.written as u64);
-    io::write_all(libc::STDOUT_FILENO, b"\n");
-    io::write_all(libc::STDOUT_FILENO, room)
+    let second = case.second;
+    let added = case.added;
+    let r = outcome(
+        case.call,
+        &s[..second],
+        &s[second..added],
+        &s[added..],
+        room,
+    );
+    let written = r.written;
+    print_number(r.number, b" ");
+    print_number(r.place as u64, b" ");
+    print_number(r.input, b" ");
+    print_number(written as u64, b" ");
+    print_number(changed(&room[written..]) as u64, b"\n");
+    io::write_all(libc::STDOUT_FILENO, &room[..written])
 }
 
-// A byte that no record has everywhere, so that one that was not to change shows.
+fn outcome(call: u64, first: &[u8], second: &[u8], added: &[u8], room: &mut [u8]) -> JoinOutcome
+    ensures { λ r. ⌜ r .written ≤ length (now (room .exit)) ⌝ }
+{
+    if call == JOIN {
+        return joins::join(first, second, added, room);
+    }
+    previews::preview(first, second, added, room)
+}
+
+fn print_number(n: u64, behind: &[u8]) {
+    io::print_decimal(libc::STDOUT_FILENO, n);
+    io::write_all(libc::STDOUT_FILENO, behind);
+}
+
 fn mark(room: &mut [u8]) {
     let mut i: usize = 0;
     while i < room.len() {
-        room[i] = 165;
+        room[i] = MARK;
         i = i + 1;
     }
+}
+
+// How many bytes are no longer marked.
+fn changed(rest: &[u8]) -> usize
+    ensures { λ r. ⌜ r ≡ changedBytes (now (rest .entry)) ⌝ }
+{
+    let mut count: usize = 0;
+    let mut i: usize = 0;
+    while i < rest.len() {
+        count = count + unmarked(rest[i]);
+        i = i + 1;
+    }
+    count
+}
+
+fn unmarked(byte: u8) -> usize
+    ensures { λ r. ⌜ r ≡ changedByte byte ⌝ }
+    ensures within { λ r. ⌜ r ≤ 1 ⌝ }
+{
+    if byte == MARK {
+        return 0;
+    }
+    1
 }

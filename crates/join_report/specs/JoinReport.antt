@@ -1,76 +1,18 @@
 -- What the join program writes of three files: the joined table to standard output, and a line to standard error where there is none.
-use Prim.Native.Nat.{ℕ, _≤_, _<_}
+use Prim.Native.Nat.{ℕ, _≤_}
 use mathlib.Core.Path.{_≡_}
-use mathlib.Core.Bool.{Bool, true, false, cond}
-use mathlib.Core.List.{List, []}
-use lib.Dec.{eqb}
+use mathlib.Core.List.{List}
 use lib.ListN.{length, take}
-use Rattle.specification.specs.Joining.{Join, joinOf}
-use Rattle.input.specs.Input.{mostBytes, readWhole}
-use Rattle.input.specs.declared.Input.{Input}
-use Rattle.text.specs.Lines.{answerLine, notWholeLine}
+use Rattle.files.specs.Files.{File, given, addedWhole, joinFiles, joinLine}
 use Rattle.join_report.specs.declared.Lengths.{Lengths}
-
--- what was read of a file, and whether a read of it failed, as where it cannot be opened
-pub record File : Type 0 where
-  pub bytes : List ℕ
-  pub failed : Bool
-
-abbrev pub fileOf : (space : List ℕ) → Input → File
-fileOf space read = record { bytes = take (read .count) space; failed = read .failed }
-
--- a file was read into this space, which holds a byte more than is taken, so that a longer file shows
-pub record ReadInto (space : List ℕ) (read : Input) : Type 0 where
-  pub room : mostBytes < length space
-  pub within : read .count ≤ length space
 
 -- the room for every line
 abbrev pub lineRoom : ℕ
 lineRoom = 52
 
--- ---- the files in turn
--- a file in its turn: it was read whole, and so were those before it
-unfoldable pub wholeFile : (before failed : Bool) (count : ℕ) → Bool
-wholeFile before failed count = cond before (readWhole failed count) false
-
--- bytes where the files were read whole, else none
-unfoldable pub given : (whole : Bool) → List ℕ → List ℕ
-given whole s = cond whole s []
-
-module _ (first second added : File) where
-  abbrev pub firstWhole : Bool
-  firstWhole = wholeFile true (first .failed) (length (first .bytes))
-
-  abbrev pub secondWhole : Bool
-  secondWhole = wholeFile firstWhole (second .failed) (length (second .bytes))
-
-  abbrev pub addedWhole : Bool
-  addedWhole = wholeFile secondWhole (added .failed) (length (added .bytes))
-
-  -- a file that was not read whole, and those behind it, count as empty: a fault of a file before it is found, and none behind it
-  abbrev pub joinFiles : Join
-  joinFiles = joinOf (given firstWhole (first .bytes)) (given secondWhole (second .bytes)) (given addedWhole (added .bytes))
-
--- ---- what is written
--- whether a read failed of the first file that was not read whole
-unfoldable pub stopFailed : (firstWhole firstFailed secondWhole secondFailed addedFailed : Bool) → Bool
-stopFailed firstWhole firstFailed secondWhole secondFailed addedFailed =
-    cond firstWhole (cond secondWhole addedFailed secondFailed) firstFailed
-
--- a fault's number and place; else the line of the first file that was not read whole; else none
-unfoldable pub lineOf : (number place : ℕ) (whole failed : Bool) → List ℕ
-lineOf number place whole failed = cond (eqb number 0) (cond whole [] (notWholeLine failed)) (answerLine number place)
-
-module _ (first second added : File) where
-  abbrev pub joinLine : List ℕ
-  joinLine =
-      let j = joinFiles first second added in
-      let failed = stopFailed (firstWhole first second added) (first .failed) (secondWhole first second added) (second .failed) (added .failed) in
-      lineOf (j .number) (j .place) (addedWhole first second added) failed
-
-  -- a refusal has no bytes
-  abbrev pub joinTable : List ℕ
-  joinTable = given (addedWhole first second added) (joinFiles first second added .table)
+-- a refusal has no bytes
+abbrev pub joinTable : (first second added : File) → List ℕ
+joinTable first second added = given (addedWhole first second added) (joinFiles first second added .table)
 
 -- both stand at the front of their buffers
 pub record JoinReported (first second added : File) (out text : List ℕ) (r : Lengths) : Type 0 where

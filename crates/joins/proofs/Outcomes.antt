@@ -12,11 +12,11 @@ use Rattle.specification.specs.Encoding.{encodeTable}
 use Rattle.specification.specs.Joining.{joinedTable, joined, joinOf, fitted, joinInto, JoinReturned}
 use Rattle.table.specs.ReadingLaws.{fits-more}
 use Rattle.table.specs.Slices.{portsOf, linksOf, tableOf}
-use Rattle.table.specs.FilledLaws.{front-table}
 use Rattle.encoding.specs.Bounded.{LinksFit}
 use Rattle.joins.specs.JoinedLaws.{joined-writable}
 use Rattle.joins.specs.JoinCases.{fitted-none, join-refused, join-done}
-use Rattle.joins.specs.InputsRead.{InputsRead}
+use Rattle.joins.specs.InputsRead.{refusalOf, InputsRead}
+use Rattle.joins.specs.InputsLaws.{read-refused, read-joined}
 use Rattle.specification.specs.declared.JoinOutcome.{JoinOutcome}
 use Rattle.joins.specs.declared.inputs.Inputs.{Inputs}
 
@@ -33,16 +33,10 @@ module _ (xs : List ℕ) {ys : List ℕ} where
 
 -- ---- the join
 module _ {first second added ports links : List ℕ} {i : Inputs} (read : InputsRead first second added ports links i) where
-  pub refused : {out : List ℕ} → i .number ≢ 0
-      → JoinReturned (joinInto first second added (length out)) out out (record { number = i .number; place = i .place; input = i .input; written = 0 })
-  refused {out} f =
-      let none = join-refused first second added (λ e. f (read .number ∙ e)) in
-      rw (fitted-none (joinOf first second added) (length out) none) (record {
-        number-is = read .number;
-        place-is = read .place;
-        input-is = read .input;
-        table-is = rw none (record { contents = refl; counted = refl });
-      })
+  pub refused : {out : List ℕ} {r : JoinOutcome} → i .number ≢ 0 → r ≡ refusalOf i → JoinReturned (joinInto first second added (length out)) out out r
+  refused {out} f e =
+      let none = join-refused first second added (λ z. f (read .number ∙ z)) in
+      rw (fitted-none (joinOf first second added) (length out) none, e) (read-refused read out f)
 
   module _ (z : i .number ≡ 0) where
     abbrev ps : List ℕ
@@ -52,7 +46,7 @@ module _ {first second added ports links : List ℕ} {i : Inputs} (read : Inputs
     ls = take (9 * i .«link_count») links
 
     table-is : tableOf ps ls ≡ joinedTable first second added
-    table-is = front-table (read .joined z)
+    table-is = read-joined read z
 
     pub few-ports : length (portsOf ps) ≤ 64
     few-ports = omega (arith, ap portCount table-is, joined-writable first second added .few-ports)

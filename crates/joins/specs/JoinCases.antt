@@ -1,11 +1,13 @@
 -- The join by the input that has the first fault.
 use Prim.Native.Nat.{ℕ, _≤_}
-use mathlib.Core.Path.{_≡_, sym, ap, _∙_}
+use mathlib.Core.Path.{_≡_, refl, sym, ap, _∙_}
 use mathlib.Core.Logic.{_≢_}
+use mathlib.Core.Bool.{Bool, true, false, cond}
 use mathlib.Core.List.{List, []}
 use native.Mathlib.Decide.{ℕ-discrete}
 use native.Mathlib.Omega.{arith}
 use lib.ListN.{length}
+use lib.Dec.{ltb}
 use borrow.Author.Tests.{eq-eqb, ne-eqb, le-ltb}
 use Rattle.specification.specs.Encoding.{encodeTable, mostTableBytes}
 use Rattle.specification.specs.Joining.{readFirst, readSecond, readAdded, joinedTable, Join, refusal, joined, joinOf, fitted, joinInto}
@@ -15,6 +17,15 @@ use Rattle.joins.specs.JoinedLaws.{joined-most}
 pub fitted-none : (j : Join) (room : ℕ) → j .table ≡ [] → fitted j room ≡ j
 unfolding fitted
 fitted-none j room e = let long = ap length e in rw (le-ltb room (length (j .table)) (omega arith))
+
+-- a buffer that is long enough changes nothing
+pub fitted-same : (j : Join) (room : ℕ) → fitted j room .number ≢ 16 → fitted j room ≡ j
+unfolding fitted
+fitted-same j room f = by (ltb room (length (j .table))) f
+  where
+    by : (short : Bool) → cond short (refusal 16 0 0) j .number ≢ 16 → cond short (refusal 16 0 0) j ≡ j
+    by true g = absurd (g refl)
+    by false g = refl
 
 module _ (first second added : List ℕ) where
   abbrev pub firstNumber : ℕ

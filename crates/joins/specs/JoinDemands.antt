@@ -3,18 +3,19 @@ use Prim.Native.Nat.{ℕ, _≤_, _<_}
 use mathlib.Core.Path.{_≡_, refl, sym, ap, _∙_}
 use mathlib.Core.Logic.{_≢_, ⊎-elim}
 use mathlib.Core.List.{List, []}
+use native.Mathlib.Decide.{ℕ-discrete}
 use native.Mathlib.Omega.{arith}
 use lib.ListN.{length}
 use borrow.Author.Tests.{lt-ltb, le-ltb}
 use Rattle.numbers.specs.ListLaws.{lt-or-le}
 use Rattle.specification.specs.Reading.{start}
 use Rattle.specification.specs.Encoding.{encodeTable, mostTableBytes}
-use Rattle.specification.specs.Joining.{beforeSecond, beforeAdded, readFirst, bothTables, joinedTable, Join, refusal, joined, joinOf, fitted, joinInto, JoinReturned, JoinNumbers, first-fault, second-fault, added-fault, short, enough, JoinDemanded}
-use Rattle.table.specs.FaultLaws.{fault-listed, fault-place}
+use Rattle.specification.specs.Joining.{joinedTable, Join, refusal, joined, joinOf, fitted, joinInto, JoinReturned, JoinNumbers, faulty, short, enough, JoinDemanded}
 use Rattle.records.specs.WrittenLaws.{written-front, written-length, written-rest, written-nothing}
 use Rattle.encoding.specs.ReadBack.{read-back}
 use Rattle.joins.specs.JoinedLaws.{joined-writable, joined-most}
-use Rattle.joins.specs.JoinCases.{fitted-none, join-first, join-second, join-added, join-whole, JoinCase, in-first, in-second, in-added, in-none, join-case}
+use Rattle.joins.specs.JoinCases.{fitted-none, join-refused, join-done}
+use Rattle.joins.specs.InputFaults.{join-fault, join-no-fault, input-fault-listed}
 use Rattle.specification.specs.declared.JoinOutcome.{JoinOutcome}
 
 -- ---- by the room
@@ -35,34 +36,25 @@ module _ (first second added : List ℕ) (room : ℕ) where
     refused : j .number ≢ 0 → j .table ≡ [] → JoinNumbers first second added room (j .number) (j .place) (j .input) → Into j
     whole : j .number ≡ 0 → j .table ≡ bytes → length bytes ≤ room → JoinNumbers first second added room (j .number) (j .place) (j .input) → Into j
 
-  fault-into : (n p i : ℕ) → n ≢ 0 → joinOf first second added ≡ refusal n p i → JoinNumbers first second added room n p i
-      → Into (joinInto first second added room)
-  fault-into n p i f e numbers = rw (e, fitted-none (refusal n p i) room refl) (refused f refl numbers)
-
   into : Into (joinInto first second added room)
-  into = by (join-case first second added)
+  into = by (ℕ-discrete (joinOf first second added .number) 0)
     where
-      by : JoinCase first second added → Into (joinInto first second added room)
-      by (in-first f) = fault-into _ _ 1 f (join-first first second added f) (first-fault (fault-listed first start f) (fault-place first start f))
-      by (in-second z f) =
-          let b = beforeSecond (readFirst first .table) in
-          fault-into _ _ 2 f (join-second first second added z f) (second-fault z (fault-listed second b f) (fault-place second b f))
-      by (in-added z y f) =
-          let b = beforeAdded (bothTables first second) in
-          fault-into _ _ 3 f (join-added first second added z y f) (added-fault z y (fault-listed added b f) (fault-place added b f))
-      by (in-none z y x) =
-          let done = join-whole first second added z y x in
+      by : Dec (joinOf first second added .number ≡ 0) → Into (joinInto first second added room)
+      by (no f) =
+          let none = join-refused first second added f in
+          rw (fitted-none (joinOf first second added) room none) (refused f none (faulty (join-fault first second added f)))
+      by (yes z) =
+          let done = join-done first second added z in
+          let none = join-no-fault first second added z in
           ⊎-elim
-          (λ (h : room < length bytes). rw (done, fitted-short bytes room h) (refused (λ e. omega (arith, e)) refl (short z y x h)))
-          (λ (h : length bytes ≤ room). rw (done, fitted-whole bytes room h) (whole refl refl h (enough z y x h)))
+          (λ (h : room < length bytes). rw (done, fitted-short bytes room h) (refused (λ e. omega (arith, e)) refl (short none h)))
+          (λ (h : length bytes ≤ room). rw (done, fitted-whole bytes room h) (whole refl refl h (enough none h)))
           (lt-or-le room (length bytes))
 
   not-short : {n p i : ℕ} → JoinNumbers first second added room n p i → mostTableBytes ≤ room → n ≢ 16
-  not-short (first-fault l _) h e = omega (arith, l .most, e)
-  not-short (second-fault _ l _) h e = omega (arith, l .most, e)
-  not-short (added-fault _ _ l _) h e = omega (arith, l .most, e)
-  not-short (short _ _ _ k) h e = omega (arith, k, joined-most first second added)
-  not-short (enough _ _ _ _) h e = omega (arith, e)
+  not-short (faulty f) h e = omega (arith, input-fault-listed first second added f .most, e)
+  not-short (short _ k) h e = omega (arith, k, joined-most first second added)
+  not-short (enough _ _) h e = omega (arith, e)
 
 module _ {first second added before after : List ℕ} {r : JoinOutcome} where
   pub join-demanded : JoinReturned (joinInto first second added (length before)) before after r → JoinDemanded first second added before after r

@@ -4,5 +4,7 @@ pub mod EachLaws
 pub mod AddedLaws
 pub mod JoinedLaws
 pub mod JoinCases
+pub mod InputFaults
 pub mod JoinDemands
 pub mod InputsRead
+pub mod InputsLaws

@@ -1,9 +1,12 @@
 // Reads the inputs of a join in turn, each behind those before it.
-ghost use Prim.Native.Nat.{_≤_};
+ghost use mathlib.Core.Path.{_≡_};
+ghost use Prim.Native.Nat.{_+_};
 ghost use lib.ListN.{length};
+ghost use Rattle.specification.specs.Reading.{start};
 ghost use Rattle.table.specs.Filled.{Room};
-ghost use Rattle.joins.specs.InputsRead.{InputRead, TablesRead, InputsRead};
+ghost use Rattle.joins.specs.InputsRead.{refusalOf, InputRead, TablesRead, InputsRead};
 use specification::Before;
+use specification::JoinOutcome;
 use table::reading;
 
 // The number, place and input of the first fault, 0 where there is none, and how many ports and links the slices hold.
@@ -13,6 +16,18 @@ pub struct Inputs {
     pub input: u64,
     pub port_count: usize,
     pub link_count: usize,
+}
+
+// What a join and a preview return where an input has a fault.
+pub fn refusal(fault: Inputs) -> JoinOutcome
+    ensures { λ r. ⌜ r ≡ refusalOf fault ⌝ }
+{
+    JoinOutcome {
+        number: fault.number,
+        place: fault.place,
+        input: fault.input,
+        written: 0,
+    }
 }
 
 // Reads one input behind what was read before it.
@@ -36,9 +51,8 @@ fn read_input(s: &[u8], input: u64, before: Before, ports: &mut [u32], links: &m
 
 // The two tables.
 fn read_tables(first: &[u8], second: &[u8], ports: &mut [u32], links: &mut [u32]) -> Inputs
-    requires { ⌜ 128 ≤ length (now ports) ⌝ }
-    requires { ⌜ 2304 ≤ length (now links) ⌝ }
-    ensures { λ r. ⌜ TablesRead (now (first .entry)) (now (second .entry)) (now (ports .exit)) (now (links .exit)) r ⌝ }
+    requires { ⌜ Room (length (now first) + length (now second)) start (length (now ports)) (length (now links)) ⌝ }
+    ensures { λ r. ⌜ TablesRead (now (first .entry)) (now (second .entry)) (now (ports .entry)) (now (links .entry)) (now (ports .exit)) (now (links .exit)) r ⌝ }
 {
     let before_first = Before {
         ports: 0,
@@ -66,8 +80,7 @@ pub fn read_inputs(
     ports: &mut [u32],
     links: &mut [u32],
 ) -> Inputs
-    requires { ⌜ 128 ≤ length (now ports) ⌝ }
-    requires { ⌜ 2304 ≤ length (now links) ⌝ }
+    requires { ⌜ Room (length (now first) + length (now second) + length (now added)) start (length (now ports)) (length (now links)) ⌝ }
     ensures { λ r. ⌜ InputsRead (now (first .entry)) (now (second .entry)) (now (added .entry)) (now (ports .exit)) (now (links .exit)) r ⌝ }
 {
     let both = read_tables(first, second, ports, links);

@@ -18,12 +18,7 @@ pub fn join(first: &[u8], second: &[u8], added: &[u8], out: &mut [u8]) -> JoinOu
     let mut links = links::room();
     let read = inputs::read_inputs(first, second, added, &mut ports, &mut links);
     if read.number != 0 {
-        return JoinOutcome {
-            number: read.number,
-            place: read.place,
-            input: read.input,
-            written: 0,
-        };
+        return inputs::refusal(read);
     }
     let port_end = ports::WIDTH * read.port_count;
     let link_end = links::WIDTH * read.link_count;

@@ -40,6 +40,10 @@ module _ {xs ys₀ ys : List ℕ} {n : ℕ} (w : Written xs ys₀ ys n) where
   pub written-within : n ≤ length ys
   written-within = omega (arith, w .counted, simp (length-append, length-drop) at (ap length (w .contents)))
 
+-- nothing is written
+pub written-none : (ys : List ℕ) → Written [] ys ys 0
+written-none ys = record { contents = refl; counted = refl }
+
 pub written-nothing : {xs ys₀ ys : List ℕ} {n : ℕ} → xs ≡ [] → Written xs ys₀ ys n → NothingWritten ys₀ ys n
 written-nothing e w = record { unchanged = rw e at (w .contents); none = rw e at (w .counted) }
 

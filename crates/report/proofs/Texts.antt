@@ -13,20 +13,15 @@ use Rattle.specification.specs.declared.Outcome.{Outcome}
 use Rattle.input.specs.Input.{mostBytes, readWhole}
 use Rattle.text.specs.Lines.{unreadLine, longLine, notWholeLine}
 use Rattle.text.specs.Printed.{printed}
-use Rattle.report.specs.AnswerTextLaws.{printed-analysed}
 use Rattle.report.specs.Report.{PrintedText, Reported}
+use Rattle.report.specs.ReportLaws.{printed-right}
 
 -- what an analysis wrote into the least answer buffer, printed
 pub printed-text : {s before after text text′ : List ℕ} {o : Outcome} {r : ℕ} → Analysed s before after o → length before ≡ leastRoom
     → Written (printed (o .number) (o .place) (take (o .written) after)) text text′ r
     → r ≤ length text′
     → PrintedText s text text′ r
-printed-text {s} h room w l = record {
-  text = _;
-  printed = record { answer = h .answer; right = rw room at (h .right); is = rw room at (printed-analysed h) };
-  written = w;
-  within = l;
-}
+printed-text h room w l = record { text = _; printed = printed-right h room; written = w; within = l }
 
 module _ {s before after : List ℕ} {count r : ℕ} where
   pub reported-not-whole : (failed : Bool) → length s ≡ count → readWhole failed count ≡ false → Written (notWholeLine failed) before after r → r ≤ length after

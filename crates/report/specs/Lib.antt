@@ -3,3 +3,4 @@ pub mod AnswerText
 pub mod RecordText
 pub mod AnswerTextLaws
 pub mod Report
+pub mod ReportLaws

@@ -33,7 +33,8 @@ fn print_answer(s: &[u8], text: &mut [u8]) -> usize
     print::print(r.number, r.place, &answer[..written], text)
 }
 
-fn answer_room() -> [u8; limits::LEAST_ROOM]
+// The least answer buffer.
+pub fn answer_room() -> [u8; limits::LEAST_ROOM]
     ensures { λ r. ⌜ leastRoom ≡ length r ⌝ }
 {
     [0; limits::LEAST_ROOM]

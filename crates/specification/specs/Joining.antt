@@ -104,21 +104,27 @@ pub record RecordFault (n : ℕ) : Type 0 where
   pub least : 2 ≤ n
   pub most : n ≤ 11
 
--- the number, place and input of a join into a buffer of so many bytes: the first fault of the first faulty input decides, then the room
-module _ (first second added : List ℕ) (room : ℕ) where
-  pub data JoinNumbers : (number place input : ℕ) → Type 0 where
-    first-fault : {n p : ℕ} → RecordFault n → FaultPlace first start n p → JoinNumbers n p 1
+module _ (first second added : List ℕ) where
+  -- the first fault of the first faulty input: its number, its place within that input, and the input
+  pub data InputFault : (number place input : ℕ) → Type 0 where
+    first-fault : {n p : ℕ} → RecordFault n → FaultPlace first start n p → InputFault n p 1
     second-fault : {n p : ℕ} → readFirst first .number ≡ 0 → RecordFault n → FaultPlace second (beforeSecond (readFirst first .table)) n p
-        → JoinNumbers n p 2
+        → InputFault n p 2
     added-fault : {n p : ℕ} → readFirst first .number ≡ 0 → readSecond first second .number ≡ 0 → RecordFault n
         → FaultPlace added (beforeAdded (bothTables first second)) n p
-        → JoinNumbers n p 3
-    short : readFirst first .number ≡ 0 → readSecond first second .number ≡ 0 → readAdded first second added .number ≡ 0
-        → room < length (encodeTable (joinedTable first second added))
-        → JoinNumbers 16 0 0
-    enough : readFirst first .number ≡ 0 → readSecond first second .number ≡ 0 → readAdded first second added .number ≡ 0
-        → length (encodeTable (joinedTable first second added)) ≤ room
-        → JoinNumbers 0 0 0
+        → InputFault n p 3
+
+  -- no input has a fault
+  pub record NoFault : Type 0 where
+    pub first-read : readFirst first .number ≡ 0
+    pub second-read : readSecond first second .number ≡ 0
+    pub added-read : readAdded first second added .number ≡ 0
+
+  -- the number, place and input of a join into a buffer of so many bytes: the first fault decides, then the room
+  pub data JoinNumbers (room : ℕ) : (number place input : ℕ) → Type 0 where
+    faulty : {n p i : ℕ} → InputFault n p i → JoinNumbers room n p i
+    short : NoFault → room < length (encodeTable (joinedTable first second added)) → JoinNumbers room 16 0 0
+    enough : NoFault → length (encodeTable (joinedTable first second added)) ≤ room → JoinNumbers room 0 0 0
 
 pub record JoinDemanded (first second added before after : List ℕ) (r : JoinOutcome) : Type 0 where
   pub numbers : JoinNumbers first second added (length before) (r .number) (r .place) (r .input)

@@ -11,5 +11,6 @@ pub mod Analysed
 pub mod Demanded
 pub mod Encoding
 pub mod Joining
+pub mod Previewing
 pub mod Bracketing
 pub mod Sizes

@@ -61,8 +61,9 @@ pub struct Outcome {
     pub written: usize,
 }
 
-// What a call of the join returns: the number; the byte at which the faulty record begins within its input; that input, 1 the first, 2 the
-// second, 3 the added records; place and input are 0 where the number concerns no record; and how many bytes of the buffer were written.
+// What a call of the join or of its preview returns: the number; the byte at which the faulty record begins within its input; that input, 1
+// the first, 2 the second, 3 the added records; place and input are 0 where the number concerns no record; and how many bytes of the buffer
+// were written.
 #[repr(C)]
 pub struct JoinOutcome {
     pub number: u64,

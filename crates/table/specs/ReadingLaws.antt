@@ -1,5 +1,5 @@
 -- What is known of a table that was read.
-use Prim.Native.Nat.{ℕ, zero, suc, _+_, _≤_, _<_}
+use Prim.Native.Nat.{ℕ, zero, suc, _+_, _*_, _≤_, _<_}
 use mathlib.Core.Path.{_≡_, refl}
 use mathlib.Core.Bool.{Bool, true, false, _&&_, cond}
 use mathlib.Core.List.{List, [], _∷_}
@@ -8,7 +8,7 @@ use native.Mathlib.Nat.{pos-of-ne-zero}
 use lib.ListN.{length, getD}
 use lib.Dec.{eqb}
 use borrow.Author.Tests.{eqb-false}
-use Rattle.specification.specs.Table.{noPort, noLink, mostPorts, mostLinks}
+use Rattle.specification.specs.Table.{Table, portCount, linkCount, noPort, noLink, mostPorts, mostLinks}
 use Rattle.table.specs.WellFormed.{PortFits, LinkFits, OneSided, WellFormed}
 use Rattle.specification.specs.Reading.{recordAt, Reading, withPort, withLink, after, readFrom, readOn, start, readTable}
 use Rattle.table.specs.RecordLaws.{Accepted, accepted}
@@ -121,6 +121,30 @@ read-fits (suc n) s at b = after-fits s at b (readFrom n s) (recordAt s at b) (a
 pub read-on-fits : (s : List ℕ) (b : Before) → Fitting b (readOn s b .table .ports) (readOn s b .table .links)
 unfolding readOn
 read-on-fits s b = read-fits (length s + 1) s 0 b
+
+-- ---- what was read has its bytes in the input: a port 8, a link 16 or more
+record InBytes (s : List ℕ) (at : ℕ) (t : Table) : Type 0 where
+  fits : at + 8 * portCount t + 16 * linkCount t ≤ length s
+
+after-bytes : (s : List ℕ) (at : ℕ) (b : Before) (rest : ℕ → Before → Reading) (r : Read) → Accepted s at b r → at ≤ length s
+    → ((next : ℕ) (c : Before) → next ≤ length s → InBytes s next (rest next c .table))
+    → InBytes s at (after rest b r .table)
+after-bytes s at b rest (PortRecord p next) a inside each =
+    omega (arith, a .onward, each next (withPort b) (a .onward .within) .fits)
+after-bytes s at b rest (LinkRecord l next) a inside each =
+    omega (arith, a .onward, each next (withLink b) (a .onward .within) .fits)
+after-bytes s at b rest (Refused number place) a inside each = omega arith
+after-bytes s at b rest End a inside each = omega arith
+
+from-bytes : (n : ℕ) (s : List ℕ) (at : ℕ) (b : Before) → at ≤ length s → InBytes s at (readFrom n s at b .table)
+unfolding readFrom
+from-bytes zero s at b inside = omega arith
+from-bytes (suc n) s at b inside =
+    after-bytes s at b (readFrom n s) (recordAt s at b) (accepted s at b) inside (λ next c within. from-bytes n s next c within)
+
+pub read-on-bytes : (s : List ℕ) (b : Before) → 8 * portCount (readOn s b .table) + 16 * linkCount (readOn s b .table) ≤ length s
+unfolding readOn
+read-on-bytes s b = omega (arith, from-bytes (length s + 1) s 0 b (omega arith) .fits)
 
 -- ---- a table that is read with number 0 is well-formed
 some-ports : (n ports : ℕ) → cond (eqb n 0 && eqb ports 0) 12 n ≡ 0 → 0 < ports

@@ -1,8 +1,9 @@
-// The analysis and the join, exported for programs in C and Rust (bindings/).
+// The analysis, the join and its preview, exported for programs in C and Rust (bindings/).
 ghost use lib.ListN.{length};
 ghost use Rattle.specification.specs.Analysed.{Analysed};
 ghost use Rattle.specification.specs.Demanded.{Demanded};
 ghost use Rattle.specification.specs.Joining.{joinInto, JoinReturned, JoinDemanded};
+ghost use Rattle.specification.specs.Previewing.{Previewed, PreviewDemanded};
 use specification::JoinOutcome;
 use specification::Outcome;
 
@@ -25,4 +26,17 @@ pub extern "C" fn vundayre_join(
     ensures demands { λ r. ⌜ JoinDemanded (now (first .entry)) (now (second .entry)) (now (added .entry)) (now (out .entry)) (now (out .exit)) r ⌝ }
 {
     joins::join(first, second, added, out)
+}
+
+#[no_mangle]
+pub extern "C" fn vundayre_preview(
+    first: &[u8],
+    second: &[u8],
+    added: &[u8],
+    answer: &mut [u8],
+) -> JoinOutcome
+    ensures { λ r. ⌜ Previewed (now (first .entry)) (now (second .entry)) (now (added .entry)) (now (answer .entry)) (now (answer .exit)) r ⌝ }
+    ensures demands { λ r. ⌜ PreviewDemanded (now (first .entry)) (now (second .entry)) (now (added .entry)) (now (answer .entry)) (now (answer .exit)) r ⌝ }
+{
+    previews::preview(first, second, added, answer)
 }

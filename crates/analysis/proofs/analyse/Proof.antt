@@ -1,7 +1,7 @@
 -- 1, or what the table comes to, in a room by the length of the input.
 use native.Mathlib.Omega.{arith}
 use borrow.Author.Needs.{needs}
-use Rattle.analysis.proofs.Outcomes.{analysed-short}
+use Rattle.analysis.specs.AnalysedLaws.{analysed-short}
 use Rattle.analysis.proofs.analyse.Statement.{statement}
 use Rattle.analysis.proofs.analyse.Tie as tie
 

@@ -35,7 +35,7 @@ use Rattle.results.specs.Named.{NamedBlock}
 use Rattle.analysis.specs.Decided.{Decided}
 use Rattle.analysis.specs.Timed.{Members, Kept, TimedBelow, PeriodsBelow, SomeNoLeast, Shown, OneLeast, OneNoLeast, OneShown, ComponentSlices, TableSlices}
 use Rattle.analysis.proofs.periods.Components.{timed-none, timed-skip, timed-next, periods-none, periods-skip, periods-next, has-period, no-period, no-least-period, timed-numbers, timed-consistent, timed-fields}
-use Rattle.analysis.proofs.Outcomes.{written-none}
+use Rattle.records.specs.WrittenLaws.{written-none}
 
 -- ---- one component
 -- the row that the last of so many rounds left as it was

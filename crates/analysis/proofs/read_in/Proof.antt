@@ -3,7 +3,7 @@ use mathlib.Core.Path.{sym, _∙_}
 use native.Mathlib.Omega.{arith}
 use lib.ListN.{length-take}
 use Rattle.table.specs.FilledLaws.{table-read, formed-read}
-use Rattle.analysis.proofs.Outcomes.{analysed-faulty, analysed-decided, written-room}
+use Rattle.analysis.specs.AnalysedLaws.{analysed-faulty, analysed-decided, written-room}
 use borrow.Author.Needs.{needs}
 use Rattle.analysis.proofs.read_in.Statement.{statement}
 use Rattle.analysis.proofs.read_in.Tie as tie

@@ -20,23 +20,8 @@ same-length c = search needs
 returns : tie.Need-returns
 returns c = search needs
 
-number-at-requires : tie.Need-number-at-requires
-number-at-requires c κs = search needs
-
-number-at-requires-2 : tie.Need-number-at-requires-2
-number-at-requires-2 c κs = search needs
-
-number-at-requires-3 : tie.Need-number-at-requires-3
-number-at-requires-3 c κs = search needs
-
-add-added : tie.Need-add-added
-add-added c = search needs
-
-number-at-requires-4 : tie.Need-number-at-requires-4
-number-at-requires-4 c κs = search needs
-
-add-end : tie.Need-add-end
-add-end c = search needs
+numbers-of-requires : tie.Need-numbers-of-requires
+numbers-of-requires c κs = search needs
 
 same-length-2 : tie.Need-same-length-2
 same-length-2 c = search needs
@@ -65,20 +50,20 @@ same-length-4 c = search needs
 returns-4 : tie.Need-returns-4
 returns-4 c = search needs
 
-slice-reshare-prefix-print-join : tie.Need-slice-reshare-prefix-print-join
-slice-reshare-prefix-print-join c = search needs
+slice-reshare-prefix-print-case : tie.Need-slice-reshare-prefix-print-case
+slice-reshare-prefix-print-case c = search needs
 
-slice-aggregate-print-join : tie.Need-slice-aggregate-print-join
-slice-aggregate-print-join c = simp length-take (omega arith)
+slice-aggregate-print-case : tie.Need-slice-aggregate-print-case
+slice-aggregate-print-case c = simp length-take (omega arith)
 
-slice-relend-prefix-print-join : tie.Need-slice-relend-prefix-print-join
-slice-relend-prefix-print-join c = search needs
+slice-relend-prefix-print-case : tie.Need-slice-relend-prefix-print-case
+slice-relend-prefix-print-case c = search needs
 
-slice-aggregate-print-join-2 : tie.Need-slice-aggregate-print-join-2
-slice-aggregate-print-join-2 c = simp length-take (omega arith)
+slice-aggregate-print-case-2 : tie.Need-slice-aggregate-print-case-2
+slice-aggregate-print-case-2 c = simp length-take (omega arith)
 
-print-join-requires : tie.Need-print-join-requires
-print-join-requires c κs =
+print-case-requires : tie.Need-print-case-requires
+print-case-requires c κs =
     let read = c .before .before .before .before .before .before .fill2 .ensures in
     (omega arith, simp length-take (omega (arith, read .0, simp length-take at (read .1))))
 
@@ -100,12 +85,7 @@ next-spec =
     fill-requires
     same-length
     returns
-    number-at-requires
-    number-at-requires-2
-    number-at-requires-3
-    add-added
-    number-at-requires-4
-    add-end
+    numbers-of-requires
     same-length-2
     returns-2
     same-length-3
@@ -115,11 +95,11 @@ next-spec =
     fill-requires-2
     same-length-4
     returns-4
-    slice-reshare-prefix-print-join
-    slice-aggregate-print-join
-    slice-relend-prefix-print-join
-    slice-aggregate-print-join-2
-    print-join-requires
+    slice-reshare-prefix-print-case
+    slice-aggregate-print-case
+    slice-relend-prefix-print-case
+    slice-aggregate-print-case-2
+    print-case-requires
     same-length-5
     same-length-6
     returns-5)

@@ -3,7 +3,7 @@ use mathlib.Core.Path.{refl}
 use mathlib.Core.List.{append-nil}
 use borrow.Author.Tests.{eq-eqb, ne-eqb}
 use Rattle.text.specs.Printed.{recordLines, printed}
-use Rattle.join_report.specs.JoinReport.{lineOf}
+use Rattle.files.specs.Files.{lineOf}
 use borrow.Author.Needs.{needs}
 use Rattle.join_report.proofs.print_line.Statement.{statement}
 use Rattle.join_report.proofs.print_line.Tie as tie

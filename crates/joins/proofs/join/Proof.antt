@@ -18,8 +18,11 @@ slice-aggregate-read-inputs-2 c = search needs
 read-inputs-requires : tie.Need-read-inputs-requires
 read-inputs-requires c κs = search needs
 
+refusal-requires : tie.Need-refusal-requires
+refusal-requires c κs = search needs
+
 returns : tie.Need-returns
-returns c = refused (c .before .before .before .before .read-inputs .ensures) (c .if1 .taken)
+returns c = refused (c .before .before .before .before .before .read-inputs .ensures) (c .before .if1 .taken) (c .refusal .ensures)
 
 mul-port-end : tie.Need-mul-port-end
 mul-port-end c = search needs
@@ -59,6 +62,7 @@ join-spec =
     slice-aggregate-read-inputs
     slice-aggregate-read-inputs-2
     read-inputs-requires
+    refusal-requires
     returns
     mul-port-end
     mul-link-end

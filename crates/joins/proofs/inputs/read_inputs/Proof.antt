@@ -18,7 +18,10 @@ returns : tie.Need-returns
 returns c = tables-faulty (c .before .before .before .before .before .before .read-tables .ensures) (c .if1 .taken)
 
 read-input-requires : tie.Need-read-input-requires
-read-input-requires c κs = held-room (c .before .before .before .before .before .before .before .before .read-tables .ensures .held (c .before .before .if1 .left)) (omega arith)
+read-input-requires c κs =
+    let at-tables = c .before .before .before .before .before .before .before .before in
+    let entry = at-tables .before .before .before .before .before .before .before .before in
+    held-room (at-tables .read-tables .ensures .held (c .before .before .if1 .left) _ (entry .pre)) (omega arith) (omega arith)
 
 same-length-3 : tie.Need-same-length-3
 same-length-3 c = search needs
@@ -29,10 +32,13 @@ same-length-4 c = search needs
 returns-2 : tie.Need-returns-2
 returns-2 c =
     let at-added = c .before .before .before .before in
-    let tables = at-added .before .before .before .before .before .before .before .before .before .read-tables .ensures in
+    let at-tables = at-added .before .before .before .before .before .before .before .before .before in
+    let entry = at-tables .before .before .before .before .before .before .before .before in
+    let tables = at-tables .read-tables .ensures in
     let none = c .before .before .before .before .before .before .before .if1 .left in
     let read = at-added .read-input .ensures in
-    all-read (tables .first-read none) (tables .second-read none) (added-next _ _ _ (tables .held none) read) (read .faultless) (read .faulty)
+    let added = added-next _ _ _ (omega arith) (tables .held none _ (entry .pre)) read in
+    all-read (tables .first-read none) (tables .second-read none) added (read .faultless) (read .faulty)
 
 pub read-inputs-spec : {M : Type 1} → statement M
 read-inputs-spec =

@@ -1,7 +1,6 @@
 -- By whether the first table has a fault.
-use mathlib.Core.Path.{sym, _∙_}
 use native.Mathlib.Omega.{arith}
-use Rattle.joins.proofs.inputs.Held.{held-room, first-next, second-next, first-faulty, tables-read}
+use Rattle.joins.proofs.inputs.Held.{held-room, first-next, first-faulty, tables-read}
 use borrow.Author.Needs.{needs}
 use Rattle.joins.proofs.inputs.read_tables.Statement.{statement}
 use Rattle.joins.proofs.inputs.read_tables.Tie as tie
@@ -19,14 +18,14 @@ returns : tie.Need-returns
 returns c =
     let at-first = c .before .before .before .before .before .before in
     let entry = at-first .before .before .before .before .before .before .before in
-    let one = first-next _ (entry .pre .0) (entry .pre .1) (at-first .read-input .ensures) in
+    let one = first-next _ _ (entry .pre) (at-first .read-input .ensures) in
     first-faulty one (c .if1 .taken) (at-first .read-input .ensures .faulty (c .if1 .taken))
 
 read-input-requires-2 : tie.Need-read-input-requires-2
 read-input-requires-2 c κs =
     let at-first = c .before .before .before .before .before .before .before .before in
     let entry = at-first .before .before .before .before .before .before .before in
-    held-room (first-next _ (entry .pre .0) (entry .pre .1) (at-first .read-input .ensures) .held) (omega arith)
+    held-room (first-next _ _ (entry .pre) (at-first .read-input .ensures) .held) (omega arith) (omega arith)
 
 same-length-3 : tie.Need-same-length-3
 same-length-3 c = search needs
@@ -39,9 +38,7 @@ returns-2 c =
     let at-second = c .before .before .before .before in
     let at-first = at-second .before .before .before .before .before .before .before .before .before in
     let entry = at-first .before .before .before .before .before .before .before in
-    let one = first-next _ (entry .pre .0) (entry .pre .1) (at-first .read-input .ensures) in
-    let two = second-next _ _ (one .held) (at-second .read-input2 .ensures) in
-    tables-read (sym (one .number) ∙ c .before .before .before .before .before .before .before .if1 .left) two (at-second .read-input2 .ensures .faulty)
+    tables-read (at-first .read-input .ensures) (at-second .read-input2 .ensures) (entry .pre) (c .before .before .before .before .before .before .before .if1 .left)
 
 pub read-tables-spec : {M : Type 1} → statement M
 read-tables-spec =

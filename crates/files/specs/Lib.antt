@@ -1,0 +1,3 @@
+-- Three files in turn.
+pub mod Files
+pub mod FilesLaws

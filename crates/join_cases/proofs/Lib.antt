@@ -1,0 +1,2 @@
+-- What the proof of `changed` uses.
+mod Counting

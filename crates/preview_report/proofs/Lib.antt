@@ -1,0 +1,2 @@
+-- What the proofs of the text of a preview use.
+mod Texts

@@ -1,0 +1,2 @@
+-- The text of a preview.
+pub mod PreviewReport

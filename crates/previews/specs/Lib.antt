@@ -1,0 +1,2 @@
+-- What is known of a preview.
+pub mod PreviewDemands
