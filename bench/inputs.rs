@@ -33,7 +33,7 @@ impl Random {
     }
 }
 
-/// A connection, or a buffer, which has no events.
+/// A connection, or a buffer, which has no events. Of kind 4 the events are divided by `over`.
 #[derive(Clone)]
 struct Link {
     from: usize,
@@ -41,14 +41,15 @@ struct Link {
     ratio: (u16, u16),
     ticks: i32,
     events: Option<i32>,
+    over: Option<u32>,
 }
 
 fn connection(from: usize, to: usize, ticks: i32, events: i32) -> Link {
-    Link { from, to, ratio: (1, 1), ticks, events: Some(events) }
+    Link { from, to, ratio: (1, 1), ticks, events: Some(events), over: None }
 }
 
 fn buffer(from: usize, to: usize, ticks: i32) -> Link {
-    Link { from, to, ratio: (1, 1), ticks, events: None }
+    Link { from, to, ratio: (1, 1), ticks, events: None, over: None }
 }
 
 /// The rates of the ports, and the links.
@@ -71,16 +72,34 @@ impl Model {
         self
     }
 
+    /// Gives the connections twelfths of events, up to two more or less than they had.
+    fn in_parts(mut self) -> Self {
+        for (number, link) in self.links.iter_mut().enumerate() {
+            if let Some(events) = &mut link.events {
+                *events = 12 * *events + number as i32 % 5 - 2;
+                link.over = Some(12);
+            }
+        }
+        self
+    }
+
     fn table(&self) -> Vec<u8> {
         let mut bytes = Vec::new();
         for &(num, den) in &self.ports {
             put(&mut bytes, &[6, 1, num, den]);
         }
         for link in &self.links {
-            let (length, kind) = if link.events.is_some() { (18, 2) } else { (14, 3) };
+            let (length, kind) = match (link.events, link.over) {
+                (None, _) => (14, 3),
+                (_, None) => (18, 2),
+                _ => (22, 4),
+            };
             put(&mut bytes, &[length, kind, link.from as u16, link.to as u16, link.ratio.0, link.ratio.1]);
             bytes.extend(link.ticks.to_le_bytes());
             bytes.extend(link.events.iter().flat_map(|events| events.to_le_bytes()));
+            if kind == 4 {
+                bytes.extend(link.over.iter().flat_map(|over| over.to_le_bytes()));
+            }
         }
         bytes
     }
@@ -119,6 +138,9 @@ fn random_model(random: &mut Random) -> Model {
         _ => long_products(random, ports),
     };
     model.links.truncate(256);
+    if random.percent(25) {
+        give_fractions(random, &mut model);
+    }
     if random.percent(20) {
         for i in (1..model.links.len()).rev() {
             model.links.swap(i, random.below(i + 1));
@@ -191,6 +213,22 @@ fn give_ratios(random: &mut Random, model: &mut Model, weights: &[u16]) {
     }
 }
 
+/// Gives some connections a fraction of events, in lowest terms or not; some of them are whole.
+fn give_fractions(random: &mut Random, model: &mut Model) {
+    let any = 1 + random.below(10_000) as i32;
+    let overs = random.pick(&[[1, 1, 1], [1, 2, 2], [2, 3, 6], [4, 5, 10], [1, 16, 625], [7, 97, 101], [1, 5_000, 10_000], [1, 2, any]]);
+    let moves = random.percent(80);
+    for link in &mut model.links {
+        let Some(events) = link.events.filter(|_| random.percent(40)) else {
+            continue;
+        };
+        let over = random.pick(&overs);
+        let moved = if moves && events.abs() < 1_000 { random.within(-over, over) } else { 0 };
+        link.events = Some(events * over + moved);
+        link.over = Some(over as u32);
+    }
+}
+
 /// Every connection is met exactly at one a/b by chosen starts, so that each cycle adds up to zero there; some are then moved.
 fn tight(random: &mut Random, ports: usize, links: usize) -> Model {
     let weights = random_weights(random, ports);
@@ -203,7 +241,7 @@ fn tight(random: &mut Random, ports: usize, links: usize) -> Model {
         let events = b * random.within(-most_events, most_events);
         let ticks = starts[to] - starts[from] - events / b * i32::from(weights[from]) * a;
         let events = (!random.percent(15)).then_some(events);
-        model.links.push(Link { from, to, ratio: (1, 1), ticks, events });
+        model.links.push(Link { from, to, ratio: (1, 1), ticks, events, over: None });
     }
     give_ratios(random, &mut model, &weights);
     if !model.links.is_empty() && random.percent(50) {
@@ -222,7 +260,7 @@ fn random_delays(random: &mut Random, ports: usize, links: usize) -> Model {
         let (from, to) = (random.below(ports), random.below(ports));
         let delay = random.within(-ticks, ticks);
         let credit = (!random.percent(20)).then(|| random.within(-events, events / 3));
-        model.links.push(Link { from, to, ratio: (1, 1), ticks: delay, events: credit });
+        model.links.push(Link { from, to, ratio: (1, 1), ticks: delay, events: credit, over: None });
     }
     give_ratios(random, &mut model, &weights);
     model
@@ -339,7 +377,7 @@ fn long_products(random: &mut Random, ports: usize) -> Model {
 /// Fields at and just past their limits, and one port, link or weight too many.
 fn edge_model(random: &mut Random) -> Model {
     let mut model = random_model(random);
-    match random.below(11) {
+    match random.below(12) {
         0 => model.ports = vec![(1, 1); random.pick(&[64, 65])],
         1 => {
             let link = connection(0, 0, 0, -1);
@@ -368,7 +406,12 @@ fn edge_model(random: &mut Random) -> Model {
                 7 => link.ratio.1 = random.pick(&[0, 1_000, 65_535]),
                 8 => link.ratio = (0, 0),
                 9 => link.ticks = random.pick(&[-10_000_001, -10_000_000, 10_000_000, 10_000_001, i32::MIN]),
-                _ => link.events = link.events.map(|_| random.pick(&[-1_001, -1_000, 1_000, 1_001, i32::MAX])),
+                10 => link.events = link.events.map(|_| random.pick(&[-1_001, -1_000, 1_000, 1_001, i32::MAX])),
+                _ => {
+                    let edges = [(0, 0), (1, 0), (0, 1), (2_000, 2), (2_001, 2), (-2_001, 2), (10_000_000, 10_000), (-10_000_001, 10_000), (0, 10_001)];
+                    let (events, over) = random.pick(&edges);
+                    (link.events, link.over) = (Some(events), Some(random.pick(&[over, over, over, u32::MAX])));
+                }
             }
         }
     }
@@ -389,7 +432,7 @@ fn damaged(random: &mut Random, mut table: Vec<u8>) -> Vec<u8> {
         4 => put(&mut table, &[6, 1, random.pick(&[0, 1]), 1]),
         _ => {
             for _ in 0..1 + random.below(24) {
-                table.push(random.pick(&[0, 0, 1, 2, 3, 6, 14, 18, 200]));
+                table.push(random.pick(&[0, 0, 1, 2, 3, 4, 6, 14, 18, 22, 200]));
             }
         }
     }
@@ -400,9 +443,9 @@ fn damaged(random: &mut Random, mut table: Vec<u8>) -> Vec<u8> {
 fn random_records(random: &mut Random) -> Vec<u8> {
     let mut bytes = Vec::new();
     for _ in 0..random.below(12) {
-        let kind = random.pick(&[0, 1, 1, 2, 3, 4, 256]);
-        let right = [0, 6, 18, 14].get(kind as usize).copied().unwrap_or(6);
-        let length = if random.percent(90) { right } else { random.below(20) as u16 };
+        let kind = random.pick(&[0, 1, 1, 2, 3, 4, 5, 256]);
+        let right = [0, 6, 18, 14, 22].get(kind as usize).copied().unwrap_or(6);
+        let length = if random.percent(90) { right } else { random.below(24) as u16 };
         put(&mut bytes, &[length, kind]);
         for _ in 0..(length.max(2) - 2) / 2 {
             put(&mut bytes, &[random.pick(&[0, 1, 1, 1, 2, 3])]);
@@ -449,7 +492,7 @@ pub fn random_join(random: &mut Random) -> JoinInput {
     }
     let size: usize = inputs.iter().map(Vec::len).sum();
     let shorter = random.below(size + 1);
-    let room = random.pick(&[5_632, 5_632, size, size + 1, size.saturating_sub(1), shorter]);
+    let room = random.pick(&[6_656, 6_656, size, size + 1, size.saturating_sub(1), shorter]);
     let [first, second, added] = inputs;
     JoinInput { first, second, added, room }
 }
@@ -497,13 +540,13 @@ pub fn join_workload() -> JoinInput {
         }
         model.table()
     };
-    JoinInput { first: half(), second: half(), added: Vec::new(), room: 5_632 }
+    JoinInput { first: half(), second: half(), added: Vec::new(), room: 6_656 }
 }
 
 /// The small join whose preview is timed: document 01's models A and D; none added.
 pub fn small_join() -> JoinInput {
     let d = Model { links: vec![connection(0, 0, -5, 1)], ..Model::new(1, (1, 5)) };
-    JoinInput { first: worked_example().table(), second: d.table(), added: Vec::new(), room: 5_632 }
+    JoinInput { first: worked_example().table(), second: d.table(), added: Vec::new(), room: 6_656 }
 }
 
 /// What is timed: a name, a word on what it is, and the table.
@@ -524,6 +567,7 @@ pub fn workloads() -> Vec<Workload> {
         named("chain, ratios", "the same with weights from 1 to 60", &chain().weighted(&weights)),
         named("ring", "64 ports, 128 links: a ring and buffers along it; ratios 1", &ring()),
         named("ring, ratios", "the same with weights from 1 to 60", &ring().weighted(&weights)),
+        named("ring, parts", "the ring with twelfths of events in kind 4", &ring().in_parts()),
         named("dense", "64 ports, 256 links: 232 connections, 24 buffers; ratios 1", &dense()),
         named("dense, ratios", "the same with weights from 1 to 60", &dense().weighted(&weights)),
         named("many periods", "64 ports, 255 connections: 192 limits, each tried in turn", &many_periods()),

@@ -5,6 +5,7 @@ pub const MOST_LINKS: usize = 256;
 pub const MOST_PART: u16 = 1_000;
 pub const MOST_TICKS: i32 = 10_000_000;
 pub const MOST_EVENTS: i32 = 1_000;
+pub const MOST_OVER: u32 = 10_000;
 pub const MOST_WEIGHT: u64 = 10_000;
 
 /// The parts of a port's maximum rate, 0 and 0 where it has none.
@@ -14,7 +15,7 @@ pub struct Port {
     pub den: u16,
 }
 
-/// A connection, or a buffer, whose events stay zero.
+/// A connection, or a buffer, whose events stay zero. The events are divided by `over`, which is 1 but for kind 4.
 #[derive(Clone, Copy)]
 pub struct Link {
     pub from: u8,
@@ -24,11 +25,26 @@ pub struct Link {
     pub is_buffer: bool,
     pub ticks: i32,
     pub events: i32,
+    pub over: u16,
 }
 
 impl Link {
     pub fn ends(&self) -> (usize, usize) {
         (self.from as usize, self.to as usize)
+    }
+
+    /// The events times the sender's weight, at which they are whole.
+    pub fn weighed_events(&self, weight: u64) -> i32 {
+        if self.over == 1 {
+            return self.events * weight as i32;
+        }
+        (i64::from(self.events) * weight as i64 / i64::from(self.over)) as i32
+    }
+
+    /// What a weight lacks for the events times it to be whole.
+    pub fn lacking(&self, weight: u64) -> u64 {
+        let over = u64::from(self.over);
+        over / gcd(u64::from(self.events.unsigned_abs()) * weight % over, over)
     }
 
     /// With so much higher ends.
@@ -221,6 +237,20 @@ fn read_record(rest: &[u8], behind: Behind, taker: &mut impl Taker) -> Result<us
             }
             taker.take_link(read_link(record, taker.ports() - behind.port, true)?.moved(behind.port));
         }
+        4 => {
+            let record: &[u8; 22] = record.try_into().map_err(|_| 4u64)?;
+            if taker.links() == MOST_LINKS {
+                return Err(7);
+            }
+            let mut link = read_link(record, taker.ports() - behind.port, false)?;
+            let over = i32_at(record, 18) as u32;
+            link.events = i32_at(record, 14);
+            if !(1..=MOST_OVER).contains(&over) || link.events.unsigned_abs() > MOST_EVENTS as u32 * over {
+                return Err(11);
+            }
+            link.over = over as u16;
+            taker.take_link(link.moved(behind.port));
+        }
         _ => return Err(3),
     }
     Ok(2 + length)
@@ -249,7 +279,15 @@ fn read_link(record: &[u8], ports: usize, is_buffer: bool) -> Result<Link, u64> 
     if !(-MOST_TICKS..=MOST_TICKS).contains(&ticks) {
         return Err(11);
     }
-    Ok(Link { from: from as u8, to: to as u8, num, den, is_buffer, ticks, events: 0 })
+    Ok(Link { from: from as u8, to: to as u8, num, den, is_buffer, ticks, events: 0, over: 1 })
+}
+
+fn gcd(x: u64, y: u64) -> u64 {
+    if x == 0 {
+        y
+    } else {
+        gcd(y % x, x)
+    }
 }
 
 fn is_part(x: u16) -> bool {

@@ -208,6 +208,24 @@ fn quotient(row: &[Exponents], least: &[Exponents]) -> Option<u64> {
     Some(product)
 }
 
+/// Multiplies the weights of each component by what the events of its connections still lack, one connection after the other.
+fn make_whole(model: &Model, weighed: &mut Weighed) -> Result<(), Unweighed> {
+    for link in model.links.iter().filter(|link| link.over > 1) {
+        let from = link.from as usize;
+        let factor = link.lacking(weighed.weights[from]);
+        if factor == 1 {
+            continue;
+        }
+        for port in each(weighed.components.members(from)) {
+            weighed.weights[port] *= factor;
+            if weighed.weights[port] > MOST_WEIGHT {
+                return Err(Unweighed::Heavy);
+            }
+        }
+    }
+    Ok(())
+}
+
 /// A connection. Its ends are given by their places among the ports of the component.
 #[derive(Clone, Copy, Default)]
 struct Edge {
@@ -238,15 +256,15 @@ impl Method for Rounds {
     fn weigh(model: &Model, weighed: &mut Weighed) -> Result<(), Unweighed> {
         join(model, &mut weighed.components);
         let width = width(model);
-        if width == 0 {
-            return Ok(());
+        if width > 0 {
+            let labels = &weighed.components.labels[..model.ports.len()];
+            let forest = Forest::new(model, labels, width);
+            if let Some(link) = forest.conflict(&model.links) {
+                return Err(Unweighed::Disagreeing(forest.loop_of(&model.links, link)));
+            }
+            forest.weigh(labels, &mut weighed.weights)?;
         }
-        let labels = &weighed.components.labels[..model.ports.len()];
-        let forest = Forest::new(model, labels, width);
-        match forest.conflict(&model.links) {
-            Some(link) => Err(Unweighed::Disagreeing(forest.loop_of(&model.links, link))),
-            None => forest.weigh(labels, &mut weighed.weights),
-        }
+        make_whole(model, weighed)
     }
 
     fn new(model: &Model, weighed: &Weighed) -> Self {
@@ -269,7 +287,7 @@ impl Method for Rounds {
         for (number, link) in model.connections() {
             let (from, to) = link.ends();
             let at = &mut next[component[from]];
-            let events = link.events * weighed.weights[from] as i32;
+            let events = link.weighed_events(weighed.weights[from]);
             let (link, ticks) = (number as u16, link.ticks);
             edges[*at as usize] = Edge { cost: 0, ticks, events, link, from: place[from], to: place[to] };
             *at += 1;

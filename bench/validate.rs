@@ -1,6 +1,6 @@
 //! Checks what 13 and 15 show. Which loop, floor and block is free; that they are such is not.
 
-/// A connection, or a buffer, which has no events.
+/// A connection, or a buffer, which has no events; they are divided by `over`.
 struct Link {
     from: usize,
     to: usize,
@@ -8,6 +8,7 @@ struct Link {
     den: i64,
     ticks: i64,
     events: Option<i64>,
+    over: i64,
 }
 
 struct Model {
@@ -33,7 +34,8 @@ fn read(table: &[u8]) -> Model {
                 num: u16_at(at + 8),
                 den: u16_at(at + 10),
                 ticks: i32_at(at + 12),
-                events: (kind == 2).then(|| i32_at(at + 16)),
+                events: (kind != 3).then(|| i32_at(at + 16)),
+                over: if kind == 4 { i32_at(at + 20) } else { 1 },
             });
         }
         at += 2 + u16_at(at) as usize;
@@ -198,12 +200,13 @@ fn sums(model: &Model, weights: &[i64], cycle: &[usize]) -> Result<(i64, i64), S
             return Err("a floor of another component than the block".into());
         }
         ticks += link.ticks;
-        events += link.events.unwrap_or(0) * weights[link.from];
+        events += link.events.unwrap_or(0) * weights[link.from] / link.over;
     }
     Ok((ticks, events))
 }
 
-/// The whole weights of a port's component, and 0 elsewhere. Ratios are known to agree, and weights to stay within 10,000.
+/// The whole weights of a port's component, at which its events are whole too, and 0 elsewhere. Ratios are known to agree, and weights to stay
+/// within 10,000.
 fn weights_from(model: &Model, port: usize) -> Vec<i64> {
     let mut parts = vec![None; model.ports.len()];
     parts[port] = Some((1, 1));
@@ -219,8 +222,12 @@ fn weights_from(model: &Model, port: usize) -> Vec<i64> {
             grew = true;
         }
     }
-    let common = parts.iter().flatten().fold(1, |product, &(_, den)| product / gcd(product, den) * den);
-    parts.iter().map(|part| part.map_or(0, |(num, den)| num * (common / den))).collect()
+    let multiple = |x: i64, y: i64| x / gcd(x, y) * y;
+    let common = parts.iter().flatten().fold(1, |product, &(_, den)| multiple(product, den));
+    let weights: Vec<i64> = parts.iter().map(|part| part.map_or(0, |(num, den)| num * (common / den))).collect();
+    let lacking = |link: &Link| link.over / gcd((link.events.unwrap_or(0) * weights[link.from]).abs(), link.over);
+    let factor = model.links.iter().filter(|link| weights[link.from] > 0).map(lacking).fold(1, multiple);
+    weights.into_iter().map(|weight| weight * factor).collect()
 }
 
 fn reduced(num: i64, den: i64) -> (i64, i64) {

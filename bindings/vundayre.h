@@ -13,12 +13,12 @@ extern "C" {
 /* An answer buffer of this many bytes suffices for every table; a shorter one is refused with number 1. */
 #define VUNDAYRE_ANSWER_BYTES 5120
 
-/* A thread with a stack of this many bytes can analyse every table and join and preview any two (the frames of the analysis take 91,040 of
-   them, those of the join 10,056, those of the preview 91,120, and none recurses; bench/run tries it out; it is not proved). */
+/* A thread with a stack of this many bytes can analyse every table and join and preview any two (the frames of the analysis take 93,200 of
+   them, those of the join 11,096, those of the preview 93,280, and none recurses; bench/run tries it out; it is not proved). */
 #define VUNDAYRE_STACK_BYTES 98304
 
 /* A buffer of this many bytes suffices for every joined table; a shorter one may be refused with number 16. */
-#define VUNDAYRE_TABLE_BYTES 5632
+#define VUNDAYRE_TABLE_BYTES 6656
 
 struct vundayre_outcome {
     /* Document 01's number: 0 is consistent; 1 to 15, and 17, periods but no least, are refusals. */

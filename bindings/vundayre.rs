@@ -7,12 +7,12 @@
 /// An answer buffer of this many bytes suffices for every table; a shorter one is refused with number 1.
 pub const ANSWER_BYTES: usize = 5120;
 
-/// A thread with a stack of this many bytes can analyse every table and join and preview any two (the frames of the analysis take 91,040 of
-/// them, those of the join 10,056, those of the preview 91,120, and none recurses; `bench/run` tries it out; it is not proved).
+/// A thread with a stack of this many bytes can analyse every table and join and preview any two (the frames of the analysis take 93,200 of
+/// them, those of the join 11,096, those of the preview 93,280, and none recurses; `bench/run` tries it out; it is not proved).
 pub const STACK_BYTES: usize = 98_304;
 
 /// A buffer of this many bytes suffices for every joined table; a shorter one may be refused with number 16.
-pub const TABLE_BYTES: usize = 5_632;
+pub const TABLE_BYTES: usize = 6_656;
 
 #[repr(C)]
 struct Outcome {

@@ -18,10 +18,15 @@ from preview_cases import check_preview, preview_cases
 from programs import BASE, JOIN, PREVIEW, built, called, calls_input, calls_output
 from shown import Wrong
 
-MOST_INPUT, MOST_ROOM = 65_536, 6_000
+MOST_INPUT, MOST_ROOM = 65_536, 7_000
 RANDOM_JOINS = 3_000
 # The most that is read at once, with its number, place and input. It is too long for the previews' four rooms.
 MOST_READ = (b'', port() * 8_192, b'', 6, 512, 2)
+
+
+def fraction(start, end):
+    """A connection of kind 4."""
+    return connection(start, end, events=1, over=2)
 
 
 def fixed_cases():
@@ -36,8 +41,8 @@ def fixed_cases():
     if join(*worked) != (0, 0, 0, due):
         sys.exit(f'joiner.py joins {worked} to {join(*worked)[3]}')
     yield worked
-    longest = full(connection)
-    for room, number in ((0, 16), (5_631, 16), (5_632, 0), (5_633, 0), (MOST_ROOM, 0)):
+    longest = full(fraction)
+    for room, number in ((0, 16), (6_655, 16), (6_656, 0), (6_657, 0), (MOST_ROOM, 0)):
         if join(*longest, room)[0] != number:
             sys.exit(f'{number} is due of the longest table in {room} bytes')
         yield (*longest, room)
@@ -45,7 +50,7 @@ def fixed_cases():
 
 def numbered_links(first, count):
     """Links with their numbers as ticks, so that another order shows; most are buffers, which are shorter."""
-    return [connection(ticks=n) if n % 8 == 0 else buffer(ticks=n) for n in range(first, first + count)]
+    return [connection(ticks=n, over=None if n % 16 else 1) if n % 8 == 0 else buffer(ticks=n) for n in range(first, first + count)]
 
 
 def split_links(counts):

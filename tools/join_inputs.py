@@ -5,14 +5,16 @@ import random
 from joiner import ends, moved
 from model import Link, Port, buffer, connection, link_bytes, port, port_bytes, record
 from random_models import UNRATED, spoiled
-from table_text import MOST_EVENTS, MOST_TICKS
+from table_text import MOST_EVENTS, MOST_OVER, MOST_TICKS
 
 # a single byte; a kind that is none; a port and a connection of a wrong length
-BYTE, OTHER, SHORT_PORT, SHORT_CONNECTION = b'\x06', record(4, b'1234'), record(1, b''), record(2, b'12')
+BYTE, OTHER, SHORT_PORT, SHORT_CONNECTION = b'\x06', record(5, b'1234'), record(1, b''), record(2, b'12')
 TWO = port() * 2 + connection(0, 1, ticks=3)
 ONE = port(1, 5) + buffer(ticks=4)
 # a port without a rate (change request F-3)
 FREE = port(0, 0) + connection(ticks=1, events=-1)
+# a connection whose number of events is a fraction (change request F-6)
+HALF = port() + connection(ticks=1, events=-1, over=2)
 
 # For each number, what stands before a faulty record of a table, and the record. From and to go by the table's own ports.
 TABLE_FAULTS = [
@@ -21,6 +23,8 @@ TABLE_FAULTS = [
     (9, port(), connection(0, 1)), (9, port() * 2 + buffer(1, 0), buffer(2, 0)), (10, port(), buffer(den=0)), (10, ONE, connection(num=1001)),
     (11, port(), connection(ticks=10_000_001)), (11, ONE, connection(events=-1001)), (11, ONE, buffer(ticks=-10_000_001)),
     (8, port(0, 0), port(0, 1000)), (8, port(0, 0) * 2, port(1, 0)), (10, port(0, 0), buffer(num=0, den=0)),
+    (4, HALF, record(4, bytes(16))), (5, HALF, port()), (9, HALF, connection(1, 0, events=1, over=0)), (10, HALF, connection(den=0, over=0)),
+    (11, HALF, connection(over=0)), (11, HALF, connection(over=10_001)), (11, port(), connection(events=2001, over=2)),
 ]
 # The same of the records that are added to three ports.
 ADDED_FAULTS = [
@@ -28,7 +32,7 @@ ADDED_FAULTS = [
     (11, b'', connection(2, 0, ticks=-10_000_001)), (5, b'', port(0, 1)), (5, b'', port(0, 0)), (10, connection(2, 0), connection(num=0, den=0)),
     *[(number, connection(2, 0) + buffer(0, 2), faulty) for number, faulty in (
         (2, b'\x12\x00\x02'), (3, OTHER), (4, SHORT_PORT), (4, SHORT_CONNECTION), (5, port()), (9, buffer(3, 0)), (10, connection(den=1001)),
-        (11, connection(events=1001)))],
+        (11, connection(events=1001)), (4, record(4, bytes(16))), (11, connection(over=0)), (11, connection(events=-2001, over=2)))],
 ]
 PORTS, LINKS = port() * 64, connection() * 256
 
@@ -40,6 +44,9 @@ FIXED = [
     # ports without a rate in the first table, the second and both
     (FREE, ONE, connection(0, 1), 0, 0, 0), (ONE, FREE, connection(0, 1), 0, 0, 0), (FREE, FREE, b'', 0, 0, 0),
     (port(0, 0) * 32, port(0, 0) * 32, buffer(63, 0), 0, 0, 0), (port(0, 0) * 63, port(0, 0) * 2, b'', 6, 8, 2),
+    # fractions of events as they stand, in lowest terms or not
+    (HALF, ONE, connection(0, 1, events=4, over=2), 0, 0, 0), (TWO, HALF, connection(0, 2, over=7) + buffer(2, 0), 0, 0, 0),
+    (HALF, HALF, connection(1, 0, events=2, over=1), 0, 0, 0),
     # each number in each input
     *[(before + faulty + port(), ONE, connection(), number, len(before), 1) for number, before, faulty in TABLE_FAULTS],
     *[(TWO, before + faulty, connection(), number, len(before), 2) for number, before, faulty in TABLE_FAULTS],
@@ -61,7 +68,7 @@ FIXED = [
 
 
 def full(link):
-    """64 ports and 256 links: with connections the longest table, with buffers the longest answer."""
+    """64 ports and 256 links: with connections of kind 4 the longest table, with buffers the longest answer."""
     table = port() * 32 + link(31, 0) * 85
     return table, table, link(63, 0) * 86
 
@@ -79,10 +86,15 @@ def random_ports(count):
     return [port_bytes(UNRATED if random.random() < 1 / 3 else Port(part(), part())) for _ in range(count)]
 
 
+def events():
+    """The events of a link and their denominator, by its kind."""
+    over = random.choice((1, 2, MOST_OVER, random.randint(1, MOST_OVER)))
+    return random.choice(((None, None), (delay(MOST_EVENTS), None), (delay(MOST_EVENTS * over), over)))
+
+
 def random_links(count, ports):
     """Links between so many ports; none where there is no port."""
-    return [link_bytes(Link(random.randrange(ports), random.randrange(ports), part(), part(), delay(MOST_TICKS),
-                            random.choice((None, delay(MOST_EVENTS)))))
+    return [link_bytes(Link(random.randrange(ports), random.randrange(ports), part(), part(), delay(MOST_TICKS), *events()))
             for _ in range(count if ports else 0)]
 
 

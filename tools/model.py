@@ -1,6 +1,7 @@
 """Models as Python values, and their tables as bytes (document 01)."""
 import struct
 from dataclasses import dataclass, field
+from fractions import Fraction
 from typing import List, Optional
 
 
@@ -17,13 +18,19 @@ class Port:
 
 @dataclass
 class Link:
-    """A connection, or a buffer, whose events are None."""
+    """A connection, or a buffer, whose events are None. A connection of kind 4 has events divided by `over` (change request F-6)."""
     start: int
     end: int
     num: int = 1
     den: int = 1
     ticks: int = 0
     events: Optional[int] = 0
+    over: Optional[int] = None
+
+    @property
+    def delta(self):
+        """The rate-dependent delay of a connection."""
+        return Fraction(self.events, self.over or 1)
 
 
 @dataclass
@@ -44,7 +51,9 @@ def link_bytes(link):
     head = struct.pack('<HHHHi', link.start, link.end, link.num, link.den, link.ticks)
     if link.events is None:
         return record(3, head)
-    return record(2, head + struct.pack('<i', link.events))
+    if link.over is None:
+        return record(2, head + struct.pack('<i', link.events))
+    return record(4, head + struct.pack('<iI', link.events, link.over))
 
 
 def table_bytes(model):
@@ -56,9 +65,9 @@ def port(num=1, den=1):
     return port_bytes(Port(num, den))
 
 
-def connection(start=0, end=0, num=1, den=1, ticks=0, events=0):
+def connection(start=0, end=0, num=1, den=1, ticks=0, events=0, over=None):
     """A connection's record."""
-    return link_bytes(Link(start, end, num, den, ticks, events))
+    return link_bytes(Link(start, end, num, den, ticks, events, over))
 
 
 def buffer(start=0, end=0, num=1, den=1, ticks=0):

@@ -1,17 +1,18 @@
 #!/usr/bin/env python3
 """Writes crates/models/stdin and stdout: tables that the program `models` is run on, and what it prints of them.
 
-The tables are those of the examples, models at the edges, those without rates and those of buffers' sizes among them, random models, one or more
-for each number without a model, and random models with a fault in their bytes. What the program prints is checked, answer by answer, before it
-is written: number and lines by the exact solver of solver.py, number and place of a fault by reader.py, and both by what is said here beside some
-tables; the loop, floor or block that is shown, which is free, by shown.py. Where an answer is wrong, or some number, kind of floor or delay that
-a buffer needs does not occur, nothing is written, and the status is 1."""
+The tables are those of the examples, models at the edges, those without rates, of buffers' sizes and of fractions of events among them, random
+models, one or more for each number without a model, and random models with a fault in their bytes. What the program prints is checked, answer by
+answer, before it is written: number and lines by the exact solver of solver.py, number and place of a fault by reader.py, and both by what is said
+here beside some tables; the loop, floor or block that is shown, which is free, by shown.py. Where an answer is wrong, or something of `OCCUR` does
+not occur, nothing is written, and the status is 1."""
 import argparse
 import glob
 import os
 import random
 import sys
 from collections import Counter
+from dataclasses import replace
 from fractions import Fraction
 
 from joiner import join
@@ -29,14 +30,16 @@ random.seed(20261115)
 
 PORT = port_bytes(Port())
 CONNECTION = link_bytes(Link(0, 0))
-# The most ports and links, in 5,632 bytes: no fault has a later place, and no joined table is longer.
-FULL = PORT * 64 + CONNECTION * 256
+FRACTION = link_bytes(Link(0, 0, events=-1, over=2))
+# The most ports and links, in 6,656 bytes: no fault has a later place, and no joined table is longer.
+FULL = PORT * 64 + FRACTION * 256
 
 # Tables without a model, each with what is printed of it.
 REFUSED = [
     (b'\x06', 'answer 2 at 0\n'),
-    (PORT + record(4, b''), 'answer 3 at 8\n'),
+    (PORT + record(5, b''), 'answer 3 at 8\n'),
     (PORT + record(1, b''), 'answer 4 at 8\n'),
+    (PORT + record(4, bytes(16)), 'answer 4 at 8\n'),
     (PORT + CONNECTION + PORT, 'answer 5 at 28\n'),
     (PORT * 65, 'answer 6 at 512\n'),
     (PORT * 8192, 'answer 6 at 512\n'),  # exactly 65,536 bytes
@@ -47,11 +50,14 @@ REFUSED = [
     (PORT + link_bytes(Link(0, 0, 1, 0)), 'answer 10 at 8\n'),
     (port_bytes(UNRATED) + link_bytes(Link(0, 0, 0, 0)), 'answer 10 at 8\n'),
     (PORT * 2 + CONNECTION + link_bytes(Link(0, 1, ticks=10_000_001)), 'answer 11 at 36\n'),  # change request F-1
+    # the denominator and the value of a fraction of events (change request F-6)
+    *[(PORT + FRACTION + link_bytes(Link(0, 0, events=events, over=over)), 'answer 11 at 32\n')
+      for events, over in ((1, 0), (1, 10_001), (2_001, 2), (-2_001, 2), (10_000_001, 10_000), (0, 2 ** 32 - 1))],
     (b'', 'answer 12 at 0\n'),
     # the latest places, with bytes behind them up to 65,536
-    (FULL + b'\x06', 'answer 2 at 5632\n'),
-    (FULL + PORT * 7488, 'answer 5 at 5632\n'),
-    (FULL + CONNECTION * 2995 + b'\x12\x00\x02\x00', 'answer 7 at 5632\n'),
+    (FULL + b'\x06', 'answer 2 at 6656\n'),
+    (FULL + PORT * 7360, 'answer 5 at 6656\n'),
+    (FULL + CONNECTION * 2944, 'answer 7 at 6656\n'),
     # a record of 65,000 bytes is itself the first fault
     (record(9, bytes(64_996)) + PORT, 'answer 3 at 0\n'),
     (PORT + record(2, bytes(64_996)) + port_bytes(Port(0, 1)), 'answer 4 at 8\n'),
@@ -62,6 +68,7 @@ EDGES = [
     Model([FAST] * 2, [Link(0, 1, 2, 1, ticks=1, events=-1), Link(1, 0, 1, 2, ticks=1)]),                       # H, δ exchanged
     Model([Port(1, 1), Port(1, 2)], []),                                                                        # two unjoined ports
     Model([Port()] * 4, [Link(0, 1, 1000, 1), Link(1, 2, 1000, 1), Link(3, 3, 2, 1)]),                          # 13 before 14
+    Model([Port()] * 2, [Link(0, 1, 2, 1), Link(0, 1), Link(1, 1, events=1, over=9_973), Link(1, 1, over=9_967)]),  # the same by fractions
     Model([Port()] * 64, [Link(p, p + 1, 1000, 1) for p in range(63)]),
     Model([Port()] * 64, [Link(p, p + 1, 1000, 1) for p in range(63)] + [Link(0, 63, 1, 1)]),
     Model([Port()] * 64, [Link(p % 64, (p + 1) % 64, 1, 1, 10_000_000, -1000) for p in range(256)]),
@@ -176,6 +183,47 @@ SIZES = [
 ]
 
 
+def itself(*delays, rate=(1, 1)):
+    """A port of this rate, joined to itself by connections with these ticks and fractions of events."""
+    return Model([Port(*rate)], [Link(0, 0, ticks=ticks, events=events, over=over) for ticks, events, over in delays])
+
+
+def timed_ports(*ports):
+    """What is printed of ports by their component, weight, period and start."""
+    return printed(0, [(component, weight, Fraction(period), Fraction(start)) for component, weight, period, start in ports], [])
+
+
+TWO_TO_ONE = Link(0, 1, 2, 1, events=1, over=2)
+ONE_TO_TWO = Link(1, 0, 1, 2, events=1, over=2)
+
+# Fractions of events (change request F-6), each model with what is printed of it.
+FRACTIONS = [
+    # what hiding the middle of a chain gives
+    (Model([Port(1, 6), Port()], [Link(0, 1, ticks=-2, events=1, over=2)]), timed_ports((0, 2, 6, 0), (0, 2, 6, 1))),
+    (itself((1, -1, 2)), timed_ports((0, 2, 2, 0))),
+    (itself((1, -1, 2), rate=(0, 0)), timed_ports((0, 2, 2, 0))),
+    (itself((1, -3, 2), rate=(0, 0)), timed_ports((0, 2, Fraction(2, 3), 0))),
+    # whole ones, as kind 2 has them
+    (itself((1, -4, 2)), timed_ports((0, 1, 1, 0))),
+    (itself((0, 0, 7)), timed_ports((0, 1, 1, 0))),
+    (itself((-5, 2, 2), rate=(1, 5)), timed_ports((0, 1, 5, 0))),
+    (itself((-2, 1, 2), rate=(1, 5)), blocked('port 0', 0)),
+    (itself((0, 1, 10_000), rate=(0, 0)), blocked('zero', 0)),
+    # the weights are scaled only where a delay is not whole at its sender's weight, and only in its component
+    (Model([Port()] * 2, [TWO_TO_ONE]), timed_ports((0, 2, 2, 0), (0, 1, 1, 1))),
+    (Model([Port()] * 2, [ONE_TO_TWO]), timed_ports((0, 4, 2, Fraction(1, 2)), (0, 2, 1, 0))),
+    (Model([Port()] * 2, [Link(1, 1, events=-1, over=3)]), timed_ports((0, 1, 1, 0), (1, 3, 1, 0))),
+    (Model([Port()] * 2, [Link(0, 0, events=-1, over=6), Link(0, 1, events=-1, over=4)]), timed_ports((0, 12, 1, 0), (0, 12, 1, 0))),
+    # 10,000 and more
+    (itself((0, -1, 10_000)), timed_ports((0, 10_000, 1, 0))),
+    (itself((0, -10_000_000, 10_000)), timed_ports((0, 1, 1, 0))),
+    (itself((0, -1, 16), (0, -1, 625)), timed_ports((0, 10_000, 1, 0))),
+    (itself((0, -1, 9_973), (0, -1, 9_967)), 'answer 14 at 0\n'),
+    (Model([Port()] * 2, [replace(ONE_TO_TWO, over=5_000)]), timed_ports((0, 10_000, 2, Fraction(1, 5_000)), (0, 5_000, 1, 0))),
+    (Model([Port()] * 2, [replace(ONE_TO_TWO, over=5_001)]), 'answer 14 at 0\n'),
+]
+
+
 def faulty_tables(count):
     """So many random tables with a fault."""
     tables = []
@@ -225,10 +273,12 @@ def check(model, due, text):
         raise Wrong(f'{len(lines)} lines follow what is due')
 
 
-# What must occur among the answers: the numbers; the kinds of floor; 15 where another component has periods but no least; and the delays that
-# buffers need: below zero, zero, an exact number of events, and one with a part over.
+# What must occur among the answers: the numbers; the kinds of floor; 15 where another component has periods but no least; the delays that
+# buffers need: below zero, zero, an exact number of events, and one with a part over; and models with fractions of events, of some of which no
+# weight is scaled, of some it is, and of some it then passes 10,000.
 OCCUR = [*(f'answer {number}' for number in (0, *range(2, 16), 17, 'long')), 'floor port', 'floor cycle', 'floor zero', '15 beside 17',
-         'needed below zero', 'needed zero', 'needed exact', 'needed part over']
+         'needed below zero', 'needed zero', 'needed exact', 'needed part over',
+         'a fraction of events', 'fractions and no weight scaled', 'fractions and a weight scaled', '14 by scaling alone']
 
 
 def needed(model):
@@ -248,9 +298,24 @@ def needed(model):
         yield kind
 
 
+def fraction_kinds(model):
+    """What a model with fractions of events, in lowest terms, does to the weights; nothing of one without."""
+    if all(link.events is None or link.delta.denominator == 1 for link in model.links):
+        return
+    yield 'a fraction of events'
+    number, scaled = weights(model)
+    without, base = weights(Model(model.ports, [replace(link, events=None, over=None) for link in model.links]))
+    if number == 0:
+        yield 'fractions and no weight scaled' if scaled == base else 'fractions and a weight scaled'
+    elif number == 14 and without == 0:
+        yield '14 by scaling alone'
+
+
 def kinds(model, text):
     """What of this occurs in an answer."""
     yield ' '.join(text.split()[:2])
+    if model is not None:
+        yield from fraction_kinds(model)
     if text.startswith(answer_line(0)):
         yield from needed(model)
     if text.startswith(answer_line(15)):
@@ -264,7 +329,7 @@ def main():
     options.add_argument('--program', default=built('models'), help='the built program')
     program = options.parse_args().program
     cases = [(f'{len(table)} bytes', table, None, due) for table, due in REFUSED]
-    for name, listed in (('without rate', WITHOUT_RATE), ('sizes', SIZES)):
+    for name, listed in (('without rate', WITHOUT_RATE), ('sizes', SIZES), ('fractions', FRACTIONS)):
         cases += [(f'{name} {n}', table_bytes(model), model, due) for n, (model, due) in enumerate(listed)]
     models = [*examples(), *((f'edge {n}', model) for n, model in enumerate(EDGES))]
     models += [(f'small {n}', small()) for n in range(5000)]

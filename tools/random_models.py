@@ -2,6 +2,7 @@
 import itertools
 import random
 from dataclasses import replace
+from fractions import Fraction
 
 from model import Link, Model, Port, link_bytes, port_bytes, record
 
@@ -33,6 +34,24 @@ def joined_weights(ports, most):
     return [random.randint(1, most) for _ in range(ports)]
 
 
+def in_kind_4(link, delta):
+    """The connection with a delay of so many events as a fraction, not always in lowest terms."""
+    most = 10_000 // delta.denominator
+    factor = random.choice((1, 1, 1, min(2, most), random.randint(1, most)))
+    return replace(link, events=delta.numerator * factor, over=delta.denominator * factor)
+
+
+def with_fractions(model):
+    """A model some of whose connections have a fraction of events, or their whole number as one (change request F-6)."""
+    overs = random.choice(((1,), (1, 2), (2, 3, 4), (1, 2, 5, 10), (7, 97, 101), (1, 10_000), range(1, 10_001)))
+    for at, link in enumerate(model.links):
+        if link.events is not None and random.random() < 0.5:
+            over = random.choice(overs)
+            moved = random.randint(-over, over) if abs(link.events) < 1000 else 0
+            model.links[at] = in_kind_4(link, Fraction(link.events * over + moved, over))
+    return model
+
+
 def random_delays(ports, links, most_weight, most_ticks, most_events):
     """Delays of any sign, most back paths with credit, ratios that agree but for a few."""
     w = joined_weights(ports, most_weight)
@@ -47,8 +66,9 @@ def random_delays(ports, links, most_weight, most_ticks, most_events):
     return model
 
 
-def tight(ports, links, most_weight):
-    """Every connection is met exactly at one a/b by chosen starts, so that every cycle adds up to zero there; a few are then moved."""
+def tight(ports, links, most_weight, fractions=0):
+    """Every connection is met exactly at one a/b by chosen starts, so that every cycle adds up to zero there; a few are then moved. Some may have
+    a fraction of events."""
     w = joined_weights(ports, most_weight)
     b = random.choice((1, 1, 2, 3))
     a = random.randint(1, 9)
@@ -60,7 +80,12 @@ def tight(ports, links, most_weight):
         if (events * w[p] * a) % b:
             events = b * random.choice((-1, 0, 1))
         ticks = start[q] - start[p] - events * w[p] * a // b
-        model.links.append(Link(p, q, *scaled(w[p], w[q]), ticks, None if random.random() < 0.15 else events))
+        link = Link(p, q, *scaled(w[p], w[q]), ticks, None if random.random() < 0.15 else events)
+        if link.events is not None and random.random() < fractions:
+            # so many ticks more, and as many less by a part of an event
+            more = random.randint(-3, 3)
+            link = in_kind_4(replace(link, ticks=ticks - more), events + Fraction(more * b, w[p] * a))
+        model.links.append(link)
     if model.links and random.random() < 0.4:
         random.choice(model.links).ticks += random.choice((-1, 1))
     return model
@@ -131,7 +156,11 @@ def beside(models):
 
 
 def small():
-    kind = random.randrange(6)
+    kind = random.randrange(8)
+    if kind == 7:
+        return with_fractions(random_delays(random.randint(1, 5), random.randint(0, 8), random.choice((1, 1, 6)), 40, 4))
+    if kind == 6:
+        return tight(random.randint(1, 6), random.randint(0, 12), random.choice((1, 1, 3)), 0.5)
     if kind < 2:
         return tight(random.randint(1, 6), random.randint(0, 12), random.choice((1, 1, 3)))
     if kind == 2:
@@ -144,8 +173,10 @@ def small():
 
 
 def large():
-    kind = random.randrange(5)
+    kind = random.randrange(6)
     ports = random.choice((12, 24, 40, 64))
+    if kind == 5:
+        return tight(ports, random.randint(ports, 4 * ports), random.choice((1, 1, 4)), 0.3)
     if kind == 0:
         return tight(ports, random.randint(ports, 4 * ports), random.choice((1, 1, 4)))
     if kind == 1:
@@ -168,20 +199,22 @@ def faulty_record(ports):
     if kind == 0:
         return random.choice((b'\x06', b'\x01\x00', b'\x00\x00\x01\x00', b'\x07\x01\x01\x00'))
     if kind == 1:
-        return record(random.choice((0, 4, 5, 16, 256, 65535)), bytes(random.randrange(20)))
+        return record(random.choice((0, 5, 6, 16, 256, 65535)), bytes(random.randrange(24)))
     if kind == 2:
-        return record(random.randint(1, 3), bytes(random.choice((0, 3, 5, 11, 13, 15, 17))))
+        return record(random.randint(1, 4), bytes(random.choice((0, 3, 5, 11, 13, 15, 17, 19, 21))))
     if kind == 3:
         return port_bytes(Port(*random.choice(((0, 1), (1, 0), (0, 65535), (1000, 0), (1001, 1), (1, 65535)))))
-    link = Link(port, port, events=random.choice((0, None)))
+    link = Link(port, port, **random.choice(({}, {'events': None}, {'over': 3})))
     if kind == 4:
         link.start = ports + random.randrange(3)
     elif kind == 5:
         link.num, link.den = random.choice(((1, 0), (0, 0), (1, 1001)))
     elif kind == 6:
         link.ticks = random.choice((10_000_001, -10_000_001, -2 ** 31, 2 ** 31 - 1))
-    else:
+    elif link.over is None:
         link.events = random.choice((1001, -1001, -2 ** 31))
+    else:
+        link.events, link.over = random.choice(((0, 0), (1, 0), (1, 10_001), (2001, 2), (-2001, 2), (10_000_001, 10_000), (1, 2 ** 32 - 1)))
     return link_bytes(link)
 
 

@@ -43,7 +43,8 @@ def relative_periods(model):
 
 
 def weights(model):
-    """(13, None), (14, None), or (0, the weights)."""
+    """(13, None), (14, None), or (0, the weights): the smallest whole numbers of a component in proportion for which every delay in events times
+    the weight that it leaves is whole (change request F-6)."""
     period = relative_periods(model)
     if period is None:
         return 13, None
@@ -56,6 +57,10 @@ def weights(model):
         common = gcd(*whole)
         for p, w in zip(members, whole):
             result[p] = w // common
+        delays = [link.delta * result[link.start] for link in model.links if component[link.start] == root and link.events is not None]
+        parts = lcm(*(delay.denominator for delay in delays))
+        for p in members:
+            result[p] *= parts
     if max(result) > 10_000:
         return 14, None
     return 0, result

@@ -2,7 +2,7 @@
 import struct
 from typing import NamedTuple
 
-from table_text import MOST_EVENTS, MOST_LINKS, MOST_PART, MOST_PORTS, MOST_TICKS, RECORDS
+from table_text import MOST_EVENTS, MOST_LINKS, MOST_OVER, MOST_PART, MOST_PORTS, MOST_TICKS, RECORDS
 
 
 class Before(NamedTuple):
@@ -22,13 +22,18 @@ def is_rate(values):
     return values == (0, 0) or are_parts(values)
 
 
+def are_delays(ticks, events=0, over=1):
+    """Ticks, and events divided by `over`, are in their ranges (change request F-6)."""
+    return abs(ticks) <= MOST_TICKS and 1 <= over <= MOST_OVER and abs(events) <= MOST_EVENTS * over
+
+
 def record_fault(rest, before):
     """(number, length) of the record at the front of `rest`; number 0 where it has no fault."""
     length = int.from_bytes(rest[:2], 'little')
     if len(rest) < 2 or not 2 <= length <= len(rest) - 2:
         return 2, length
     kind = int.from_bytes(rest[2:4], 'little')
-    if kind not in (1, 2, 3):
+    if kind not in (1, 2, 3, 4):
         return 3, length
     if (kind, length) not in RECORDS:
         return 4, length
@@ -36,9 +41,8 @@ def record_fault(rest, before):
     if kind == 1:
         tests = [(5, not before.port_may_come), (6, before.ports >= MOST_PORTS), (8, not is_rate(values))]
     else:
-        delays = zip(values[4:], (MOST_TICKS, MOST_EVENTS))
         tests = [(7, before.links >= MOST_LINKS), (9, max(values[:2]) >= before.named), (10, not are_parts(values[2:4])),
-                 (11, any(abs(delay) > most for delay, most in delays))]
+                 (11, not are_delays(*values[4:]))]
     return next((number for number, faulty in tests if faulty), 0), length
 
 

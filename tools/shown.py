@@ -62,7 +62,7 @@ def sums(model, w, words):
             raise Wrong(f'link {number} of a cycle is a buffer')
         steps.append((number, link.start, link.end))
         ticks += link.ticks
-        events += link.events * w[link.start]
+        events += link.delta * w[link.start]
     check_closed(steps)
     return ticks, events, steps[0][1]
 

@@ -106,10 +106,15 @@ def by_bisection(floor, members, edges):
     return (0, x) if serves else (15, None)
 
 
+def whole(x):
+    assert x.denominator == 1
+    return x.numerator
+
+
 def timed(model, w, component, root):
     """Of the component with that root 0, its least a/b and its least starts there, times b; or 15 or 17, None and None."""
     members = [p for p in range(len(model.ports)) if component[p] == root]
-    edges = [(k.start, k.end, k.ticks, k.events * w[k.start])
+    edges = [(k.start, k.end, k.ticks, whole(k.delta * w[k.start]))
              for k in model.links if k.events is not None and component[k.start] == root]
     limits = (Fraction(model.ports[p].den, model.ports[p].num * w[p]) for p in members if model.ports[p].is_rated)
     floor = max(limits, default=Fraction(0))

@@ -8,6 +8,7 @@
 
     port 1/1                                         maximum rate: events per tick; 0/0 where it has none
     connection 0 1 ratio 1/1 ticks 3 events 0        from, to, ratio, constant delay, rate-dependent delay
+    connection 0 1 ratio 1/1 ticks 3 events 1/2      the same with a fraction of events, also where it is whole, as 4/2
     buffer 1 0 ratio 1/1 ticks 4                     from, to, ratio, constant delay
 
 Without a file, standard input is read. Ports are numbered from 0 in order; connections and buffers share one numbering from 0.
@@ -22,7 +23,7 @@ import sys
 from model import Link, Model, Port, table_bytes
 
 MOST_PORTS, MOST_LINKS, MOST_PART = 64, 256, 1_000
-MOST_TICKS, MOST_EVENTS = 10_000_000, 1_000
+MOST_TICKS, MOST_EVENTS, MOST_OVER = 10_000_000, 1_000, 10_000
 USAGE = 'usage: table_text.py encode [--added] [TEXT] > TABLE, or table_text.py decode [--at BYTE] [TABLE] > TEXT'
 # More than any number of a table needs, and few enough for Python to read.
 MOST_DIGITS = 10
@@ -31,8 +32,8 @@ NUMBER = r'([+-]?[0-9]+)'
 LINK = rf'{NUMBER} {NUMBER} ratio {NUMBER}/{NUMBER} ticks {NUMBER}'
 SHAPES = {
     'port': (rf'port {NUMBER}/{NUMBER}', 'port RATE, as: port 1/1'),
-    'connection': (rf'connection {LINK} events {NUMBER}',
-                   'connection FROM TO ratio N/D ticks T events E, as: connection 0 1 ratio 1/1 ticks 3 events 0'),
+    'connection': (rf'connection {LINK} events {NUMBER}(?:/{NUMBER})?',
+                   'connection FROM TO ratio N/D ticks T events E or N/D, as: connection 0 1 ratio 1/1 ticks 3 events 0'),
     'buffer': (rf'buffer {LINK}', 'buffer FROM TO ratio N/D ticks T, as: buffer 1 0 ratio 1/1 ticks 4'),
 }
 # For each kind and length of a record: its numbers, and its line.
@@ -40,6 +41,7 @@ RECORDS = {
     (1, 6): ('<HH', 'port {}/{}\n'),
     (2, 18): ('<HHHHii', 'connection {} {} ratio {}/{} ticks {} events {}\n'),
     (3, 14): ('<HHHHi', 'buffer {} {} ratio {}/{} ticks {}\n'),
+    (4, 22): ('<HHHHiiI', 'connection {} {} ratio {}/{} ticks {} events {}/{}\n'),
 }
 
 
@@ -68,7 +70,7 @@ def add_line(model, line, added):
     match = re.fullmatch(pattern, line)
     if not match:
         raise Fault(f'this is not {shape}')
-    values = [number(word) for word in match.groups()]
+    values = [number(word) for word in match.groups() if word is not None]
     if kind == 'port':
         if added:
             raise Fault('a port among added records')
@@ -89,7 +91,11 @@ def add_line(model, line, added):
     for part in values[2:4]:
         within('ratio part', part, 1, MOST_PART)
     within('ticks', values[4], -MOST_TICKS, MOST_TICKS)
-    if kind == 'connection':
+    if len(values) == 7:
+        within('denominator of events', values[6], 1, MOST_OVER)
+        if abs(values[5]) > MOST_EVENTS * values[6]:
+            raise Fault(f'events {values[5]}/{values[6]} is not from -{MOST_EVENTS} to {MOST_EVENTS}')
+    elif kind == 'connection':
         within('events', values[5], -MOST_EVENTS, MOST_EVENTS)
     model.links.append(Link(*values) if kind == 'connection' else Link(*values, events=None))
 

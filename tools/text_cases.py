@@ -12,7 +12,7 @@ PORT = b'port 1/1\n'
 CONNECTION = b'connection 0 0 ratio 1/1 ticks 0 events 0\n'
 BUFFER = b'buffer 0 0 ratio 1/1 ticks 0\n'
 PORT_SHAPE = 'this is not port RATE, as: port 1/1'
-CONNECTION_SHAPE = 'this is not connection FROM TO ratio N/D ticks T events E, as: connection 0 1 ratio 1/1 ticks 3 events 0'
+CONNECTION_SHAPE = 'this is not connection FROM TO ratio N/D ticks T events E or N/D, as: connection 0 1 ratio 1/1 ticks 3 events 0'
 BUFFER_SHAPE = 'this is not buffer FROM TO ratio N/D ticks T, as: buffer 1 0 ratio 1/1 ticks 4'
 NO_RATE = 'not from 1 to 1000, nor is the rate 0/0'
 ONE = port_bytes(Port())
@@ -40,6 +40,14 @@ GOOD_TEXTS = [
     (PORT * 64 + CONNECTION * 255 + BUFFER, table_bytes(Model([Port()] * 64, [Link(0, 0)] * 255 + [Link(0, 0, events=None)]))),
     (PORT + b'connection 0 0 ratio 1000/1 ticks 10000000 events 1000\n' b'connection 0 0 ratio 1/1000 ticks -10000000 events -1000\n',
      table_bytes(Model([Port()], [Link(0, 0, 1000, 1, 10_000_000, 1000), Link(0, 0, 1, 1000, -10_000_000, -1000)]))),
+    # a fraction of events is kind 4, also where it is whole; a whole number is kind 2
+    (PORT + b'connection 0 0 ratio 2/3 ticks 1 events -1/2\n', ONE + bytes.fromhex('16000400000000000200030001000000' 'ffffffff02000000')),
+    (PORT + b'connection 0 0 ratio 1/1 ticks 0 events 4/2\n', ONE + link_bytes(Link(0, 0, events=4, over=2))),
+    (PORT + b'connection 0 0 ratio 1/1 ticks 0 events 2/1\n', ONE + link_bytes(Link(0, 0, events=2, over=1))),
+    (PORT + b'connection 0 0 ratio 1/1 ticks 0 events 2\n', ONE + link_bytes(Link(0, 0, events=2))),
+    (PORT + b'connection 0 0 ratio 1/1 ticks 0 events 0/7\n', ONE + link_bytes(Link(0, 0, events=0, over=7))),
+    (PORT + b'connection 0 0 ratio 1/1 ticks 0 events 2000/2\n' b'connection 0 0 ratio 1/1 ticks 0 events -10000000/10000\n',
+     table_bytes(Model([Port()], [Link(0, 0, events=2000, over=2), Link(0, 0, events=-10_000_000, over=10_000)]))),
 ]
 
 FAULTY_TEXTS = [
@@ -74,6 +82,15 @@ FAULTY_TEXTS = [
     (PORT + b'buffer 0 0 ratio 1/1 ticks -10000001\n', 'line 2: ticks -10000001 is not from -10000000 to 10000000'),
     (PORT + b'connection 0 0 ratio 1/1 ticks 0 events 1001\n', 'line 2: events 1001 is not from -1000 to 1000'),
     (PORT + b'connection 0 0 ratio 1/1 ticks 0 events -1001\n', 'line 2: events -1001 is not from -1000 to 1000'),
+    (PORT + b'connection 0 0 ratio 1/1 ticks 0 events 1/0\n', 'line 2: denominator of events 0 is not from 1 to 10000'),
+    (PORT + b'connection 0 0 ratio 1/1 ticks 0 events 0/10001\n', 'line 2: denominator of events 10001 is not from 1 to 10000'),
+    (PORT + b'connection 0 0 ratio 1/1 ticks 0 events 1/-2\n', 'line 2: denominator of events -2 is not from 1 to 10000'),
+    (PORT + b'connection 0 0 ratio 1/1 ticks 0 events 2001/2\n', 'line 2: events 2001/2 is not from -1000 to 1000'),
+    (PORT + b'connection 0 0 ratio 1/1 ticks 0 events -10000001/10000\n', 'line 2: events -10000001/10000 is not from -1000 to 1000'),
+    (PORT + b'connection 0 0 ratio 1/1 ticks 0 events 1/\n', f'line 2: {CONNECTION_SHAPE}'),
+    (PORT + b'connection 0 0 ratio 1/1 ticks 0 events 1/2/3\n', f'line 2: {CONNECTION_SHAPE}'),
+    (PORT + b'connection 0 0 ratio 1/1 ticks 0 events 1 /2\n', f'line 2: {CONNECTION_SHAPE}'),
+    (PORT + b'buffer 0 0 ratio 1/1 ticks 1/2\n', f'line 2: {BUFFER_SHAPE}'),
     # fields that are missing, too many, or no numbers
     (b'port\n', f'line 1: {PORT_SHAPE}'),
     (b'port 1\n', f'line 1: {PORT_SHAPE}'),
@@ -115,6 +132,7 @@ GOOD_ADDED = [
     (CONNECTION, link_bytes(Link(0, 0))),
     (b'connection 63 0 ratio 2/4 ticks 3 events -1\n' b'buffer 0 63 ratio 1/1 ticks -4\n',
      link_bytes(Link(63, 0, 2, 4, 3, -1)) + link_bytes(Link(0, 63, ticks=-4, events=None))),
+    (b'connection 63 0 ratio 1/1 ticks 0 events 1/3\n', link_bytes(Link(63, 0, events=1, over=3))),
     (BUFFER * 256, link_bytes(Link(0, 0, events=None)) * 256),
 ]
 
@@ -137,6 +155,9 @@ GOOD_TABLES = [
     (b'', b''),
     (link_bytes(Link(63, 0)), b'connection 63 0 ratio 1/1 ticks 0 events 0\n'),
     (port_bytes(Port(0, 0)) + ONE, b'port 0/0\n' + PORT),
+    (ONE + link_bytes(Link(0, 0, events=-1, over=2)) + link_bytes(Link(0, 0, events=2, over=1)),
+     PORT + b'connection 0 0 ratio 1/1 ticks 0 events -1/2\n' b'connection 0 0 ratio 1/1 ticks 0 events 2/1\n'),
+    (link_bytes(Link(0, 0, events=-2 ** 31, over=2 ** 32 - 1)), b'connection 0 0 ratio 1/1 ticks 0 events -2147483648/4294967295\n'),
     # faults of its numbers and of its order stay for the text to show
     (port_bytes(Port(0, 65535)), b'port 0/65535\n'),
     (ONE * 65, PORT * 65),

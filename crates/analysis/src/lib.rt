@@ -38,12 +38,12 @@ pub fn analyse(s: &[u8], answer: &mut [u8]) -> Outcome
     // A port has 8 bytes, a link at least 16.
     if s.len() <= 128 {
         let mut ports = [0u32; 32];
-        let mut links = [0u32; 72];
+        let mut links = [0u32; 80];
         return read_in(s, &mut ports, &mut links, answer);
     }
     let mut ports = [0u32; 128];
     if s.len() <= 512 {
-        let mut links = [0u32; 288];
+        let mut links = [0u32; 320];
         return read_in(s, &mut ports, &mut links, answer);
     }
     let mut links = links::room();

@@ -1,19 +1,17 @@
 -- Calls of the analysis on both ways of bracketing return the same, and write the same records of the ports.
 use Prim.Native.Nat.{ℕ, _*_}
-use mathlib.Core.Path.{_≡_, refl, sym, ap, _∙_}
-use mathlib.Core.Bool.{Bool, true, false, cond}
+use mathlib.Core.Path.{_≡_, sym, ap, _∙_}
 use mathlib.Core.List.{List, _++_, append-assoc}
 use native.Mathlib.Omega.{arith}
 use lib.ListN.{length, take, drop}
-use lib.Dec.{ltb}
 use lib.Seq.{take-at}
 use Rattle.specification.specs.Bytes.{portBytes, Written}
 use Rattle.specification.specs.Table.{Table, portCount, linkCount}
 use Rattle.specification.specs.Reading.{readOn, start, readTable}
-use Rattle.specification.specs.Answers.{Timing, Answer, number, portRecords, bufferRecords, records, leastRoom, answerPlace}
+use Rattle.specification.specs.Answers.{Timing, Answer, number, portRecords, bufferRecords, records, answerPlace}
 use Rattle.specification.specs.Analysed.{Analysed}
 use Rattle.specification.specs.Bracketing.{Three, joinLeft, joinRight, SameCalls}
-use Rattle.table.specs.FaultLaws.{no-fault-place}
+use Rattle.table.specs.FaultLaws.{no-fault-place, answer-no-place}
 use Rattle.demands.specs.Room.{port-records}
 use Rattle.demands.specs.OrderLaws.{same-port, same-port-records, Pair, both-refused, both-disagreeing, both-overweight, both-blocked, both-no-least, both-consistent}
 use Rattle.bracketing.specs.Brackets.{brackets}
@@ -43,12 +41,8 @@ same-front {t} {u} (both-consistent {r = r} {r′ = r′} o h k) z w w′ =
 
 -- a table without a fault has no place
 no-place : (s : List ℕ) (room : ℕ) → readOn s start .number ≡ 0 → answerPlace s room ≡ 0
-unfolding answerPlace readTable
-no-place s room e = rw (no-fault-place s start e) (none (ltb room leastRoom))
-  where
-    none : (short : Bool) → _≡_ {A = ℕ} (cond short 0 0) 0
-    none true = refl
-    none false = refl
+unfolding readTable
+no-place s room e = answer-no-place s room (no-fault-place s start e)
 
 pub bracketed-calls : (a b c d : List ℕ) → Three a b c d → {before after before′ after′ : List ℕ} {r r′ : Outcome} → length before ≡ length before′
     → Analysed (joinLeft a b c d .table) before after r

@@ -1,16 +1,19 @@
--- The models A to K of document 01 and some with ports without a rate, and the answers that the definitions give them.
-use Prim.Native.Nat.{ℕ, _<_}
-use mathlib.Core.Path.{refl}
-use mathlib.Core.Bool.{true, false}
+-- The models A to K of document 01, some with ports without a rate and some with parts of an event, and the answers that the definitions
+-- give them.
+use Prim.Native.Nat.{ℕ, suc, _+_, _*_, _≤_, _<_}
+use mathlib.Core.Path.{_≡_, refl, sym, ap, subst, _∙_}
+use mathlib.Core.Bool.{true, false, true≢false}
 use mathlib.Core.List.{List, [], _∷_}
+use native.Mathlib.Nat.{mul-le-mul-right}
 use native.Mathlib.Omega.{arith}
 use lib.ListN.{getD}
-use Rattle.numbers.specs.Rationals.{Rational, _≈_, _⊕_, _·_, whole}
+use Rattle.numbers.specs.DivisorLaws.{divides-all-one}
+use Rattle.numbers.specs.Rationals.{Rational, _≼_, _≈_, _⊕_, _·_, whole}
 use Rattle.specification.specs.declared.Ticks.{Ticks}
 use Rattle.specification.specs.declared.Events.{Events}
 use Rattle.specification.specs.declared.Port.{Port}
 use Rattle.specification.specs.declared.Link.{Link}
-use Rattle.specification.specs.Table.{Table, IsConnection, from}
+use Rattle.specification.specs.Table.{Table, port, link, isBuffer, IsConnection, from, to}
 use Rattle.specification.specs.Ratios.{Step, stay, walk}
 use Rattle.specification.specs.Answers.{
   Timing,
@@ -30,7 +33,9 @@ use Rattle.specification.specs.Answers.{
 use Rattle.specification.specs.declared.Needed.{Needed}
 use Rattle.specification.specs.declared.Needed.the-variants.{Nothing, Exact, PartOver}
 use Rattle.specification.specs.Sizes.{IsNeeded, neededDelay}
-use Rattle.specification.specs.Chains.{Chain, first, connection}
+use Rattle.specification.specs.Solutions.{ε}
+use Rattle.specification.specs.Chains.{WaitsFor, Chain, first, spacing, free-spacing, connection, buffer as along-buffer, Bounded}
+use Rattle.demands.specs.WaitLaws.{waits-whole}
 use Rattle.demands.proofs.Tests.{distinct-is, consistent-by, blocked-by, blocked-from-zero-by, no-least-by, overweight-by}
 
 record Model : Type 0 where
@@ -51,14 +56,18 @@ rateless = rated 0 0
 
 -- a connection with the ratio num / den; ε and δ are each an amount forward and an amount back
 abbrev geared : (from to num den : ℕ) → Ticks → Events → Link
-geared from to num den ε δ = record { from = from; to = to; num = num; den = den; ticks = ε; events = δ; buffer = false }
+geared from to num den ε δ = record { from = from; to = to; num = num; den = den; ticks = ε; events = δ; over = 1; kind = 2 }
+
+-- the same with δ divided by over
+abbrev parted : (from to num den : ℕ) → Ticks → Events → (over : ℕ) → Link
+parted from to num den ε δ over = record { from = from; to = to; num = num; den = den; ticks = ε; events = δ; over = over; kind = 4 }
 
 -- a connection with the ratio 1/1
 abbrev plain : (from to : ℕ) → Ticks → Events → Link
 plain from to ε δ = geared from to 1 1 ε δ
 
 abbrev buffer : (from to : ℕ) → Ticks → Link
-buffer from to ε = record { from = from; to = to; num = 1; den = 1; ticks = ε; events = (0, 0); buffer = true }
+buffer from to ε = record { from = from; to = to; num = 1; den = 1; ticks = ε; events = (0, 0); over = 1; kind = 3 }
 
 -- one component: weights and starts by port, sizes by link
 abbrev timed : (weights : List ℕ) (a b : ℕ) → 0 < b → (starts sizes : List ℕ) → Timing
@@ -107,6 +116,12 @@ I : Model
 I =
     (one ∷ one ∷ [], plain 0 1 (0, 0) (0, 0) ∷ geared 0 1 2 1 (0, 0) (0, 0) ∷ [])
     gives disagreeing (along 1 ∷ against 0 ∷ [])
+
+-- δ is −1/2, so the weight is 2; the period is 2
+half : Model
+half =
+    (one ∷ [], parted 0 0 1 1 (1, 0) (0, 1) 2 ∷ [])
+    gives consistent (timed (2 ∷ []) 1 1 (omega arith) (0 ∷ []) [])
 
 models : List Model
 models =
@@ -162,6 +177,16 @@ models =
     ∷ ((rateless ∷ [], plain 0 0 (0, 0) (0, 1) ∷ []) gives noLeast)
     ∷ ((rateless ∷ [], plain 0 0 (0, 1) (1000, 0) ∷ []) gives noLeast)
     ∷ sized
+    ∷ half
+    -- δ 1/2 leaves the weight 2, so nothing is scaled; the periods are 4 and 2
+    ∷ ((rated 1000 1 ∷ rated 1000 1 ∷ [], parted 0 1 2 1 (1, 0) (1, 0) 2 ∷ geared 1 0 1 2 (1, 0) (0, 2) ∷ [])
+    gives consistent (timed (2 ∷ 1 ∷ []) 2 1 (omega arith) (0 ∷ 3 ∷ []) []))
+    -- D with the δ 2/2
+    ∷ ((rated 1 5 ∷ [], parted 0 0 1 1 (0, 5) (2, 0) 2 ∷ [])
+    gives consistent (timed (1 ∷ []) 5 1 (omega arith) (0 ∷ []) []))
+    -- the weights 10,000 and 5,000 times 2
+    ∷ ((one ∷ one ∷ [], geared 0 1 2 1 (0, 0) (0, 0) ∷ parted 1 1 1 1 (0, 0) (0, 1) 10000 ∷ [])
+    gives overweight)
     ∷ []
 
 -- ---- the lemma
@@ -184,7 +209,7 @@ I-right = record {
 
 -- a floor, or weights and a/b at the floor, show what the tests compute; at 17 an a/b that is possible with all below it
 models-right : EachRight models
-unfolding models A A-timing I sized sized-timing _gives_
+unfolding models A A-timing I sized sized-timing half _gives_
 models-right =
     also (consistent-by (cycle (0 ∷ 1 ∷ [])) tt)
     (also (consistent-by (rate 0) tt)
@@ -208,7 +233,11 @@ models-right =
     (also (no-least-by (λ p. 1) 1 1 tt)
     (also (no-least-by (λ p. 1) 1 1000 tt)
     (also (consistent-by (rate 0) tt)
-    end)))))))))))))))))))))
+    (also (consistent-by (cycle (0 ∷ [])) tt)
+    (also (consistent-by (cycle (0 ∷ 1 ∷ [])) tt)
+    (also (consistent-by (rate 0) tt)
+    (also (overweight-by (λ p. getD (20000 ∷ 10000 ∷ []) p 0) tt)
+    end)))))))))))))))))))))))))
 
 -- ---- model A: event 4 of port 1 is reached at 9, and is allowed until 9
 A-chain : (time : Rational) × Chain (tableIn A) (A-timing .size) 1 4 time × (time ≈ whole 9)
@@ -216,7 +245,7 @@ unfolding A A-timing _gives_
 A-chain = (
   _,
   connection 0 4 zeroth (connection 1 4 other (connection 0 2 zeroth (connection 1 2 other (connection 0 0 zeroth
-      (first 0 0 (record { below = omega arith })) refl) refl) refl) refl) refl,
+      (first 0 0 (record { below = omega arith })) (along-zeroth 0)) (along-other 2 0 refl)) (along-zeroth 2)) (along-other 4 2 refl)) (along-zeroth 4),
   record { holds = refl },
 )
   where
@@ -226,9 +255,71 @@ A-chain = (
     other : IsConnection (tableIn A) 1
     other = record { a-link = record { below = omega arith }; events = refl }
 
+    along-zeroth : (k : ℕ) → WaitsFor (tableIn A) 0 k k
+    along-zeroth k = waits-whole (tableIn A) 0 k k (omega arith) (omega arith) (divides-all-one 0) (divides-all-one 0) .1 (omega arith)
+
+    along-other : (k m : ℕ) → m + 2 ≡ k → WaitsFor (tableIn A) 1 k m
+    along-other k m e = waits-whole (tableIn A) 1 k m (omega arith) (omega arith) (divides-all-one 0) (divides-all-one 2) .1 (omega arith)
+
 A-bound : startOf A-timing 1 ⊕ 4 · periodOf A-timing 1 ≈ whole 9
 unfolding A-timing
 A-bound = record { holds = refl }
+
+-- ---- the δ −1/2: event 1 waits for 1/2 rounded down, 0; event 0 for −1/2, which is no event
+half-one : WaitsFor (tableIn half) 0 1 0
+unfolding half _gives_
+half-one = record { ratio-some = omega arith; over-some = omega arith; rounded = record { low = omega arith; high = omega arith } }
+
+half-none : (m : ℕ) → ¬ WaitsFor (tableIn half) 0 0 m
+unfolding half _gives_
+half-none m h = omega (arith, h .rounded .low .holds)
+
+-- every chain of it fits the period 1, though its least period is 2: that no smaller period serves wants whole δ
+record HalfWithin (p k : ℕ) (time : Rational) : Type 0 where
+  port-is : p ≡ 0
+  bound : time ≼ whole k
+
+half-step : {m k : ℕ} {time : Rational} → WaitsFor (tableIn half) 0 k m → time ≼ whole m → time ⊕ ε (tableIn half) 0 ≼ whole k
+unfolding half _gives_
+half-step {m} {k} {time} w h =
+    let later : m + 1 ≤ k = omega (arith, w .rounded .low .holds) in
+    record { holds = omega (arith, h .holds, mul-le-mul-right (time .over) later) }
+
+half-within : {p k : ℕ} {time : Rational} → Chain (tableIn half) (λ n. 0) p k time → HalfWithin p k time
+unfolding half _gives_
+half-within (first p k i) = record { port-is = omega (arith, i .below); bound = omega arith }
+half-within (spacing {p = p} {k = k} {time = time} c some) =
+    let h = half-within c in
+    let num : port (tableIn half) p .num ≡ 1 = ap (λ (q : ℕ). port (tableIn half) q .num) (h .port-is) in
+    let den : port (tableIn half) p .den ≡ 1 = ap (λ (q : ℕ). port (tableIn half) q .den) (h .port-is) in
+    record {
+      port-is = h .port-is;
+      bound = record {
+        holds = omega (
+          arith,
+          h .bound .holds,
+          ap (λ (x : ℕ). time .plus * x) num,
+          ap (λ (x : ℕ). time .minus * x) num,
+          ap (λ (x : ℕ). suc k * time .over * x) num,
+          ap (λ (x : ℕ). x * time .over) den,
+        );
+      };
+    }
+half-within (free-spacing {p = p} c none) =
+    let num : port (tableIn half) p .num ≡ 1 = ap (λ (q : ℕ). port (tableIn half) q .num) (half-within c .port-is) in
+    absurd (omega (arith, none))
+half-within (connection {m = m} {time = time} n k i c w) =
+    let e : n ≡ 0 = omega (arith, i .a-link .below) in
+    subst (λ (j : ℕ). HalfWithin (to (tableIn half) j) k (time ⊕ ε (tableIn half) j)) (sym e) (record {
+      port-is = refl;
+      bound = half-step (subst (λ (j : ℕ). WaitsFor (tableIn half) j k m) e w) (half-within c .bound);
+    })
+half-within (along-buffer n k i c w) =
+    let e : n ≡ 0 = omega (arith, i .a-link .below) in
+    absurd (true≢false (sym (i .no-events) ∙ ap (λ (j : ℕ). isBuffer (link (tableIn half) j)) e))
+
+half-bounded : Bounded (tableIn half) (λ n. 0) (λ p. whole 1) (λ p. whole 0)
+half-bounded = record { bound = λ c. record { holds = omega (arith, half-within c .bound .holds) } }
 
 -- ---- the cases of buffers
 abbrev Needs : Model → Timing → ℕ → Needed → Type 0

@@ -8,7 +8,7 @@ use native.Mathlib.Nat.{eq-or-lt-of-le, le-of-suc-le-suc, mul-pos, mul-le-mul-ri
 use native.Mathlib.Omega.{arith}
 use lib.Dec.{T, T-not, eqb, leb, ltb, eqb→eq, eqb-refl, nleb→lt, lit<, lit≤}
 use lib.ListN.{getD}
-use Rattle.numbers.specs.DivisorLaws.{divides-times, divides-rest, divides-one}
+use Rattle.numbers.specs.DivisorLaws.{divides-times, divides-rest, divides-one, divides-≤}
 use Rattle.numbers.specs.Divisors.{Coprime}
 use Rattle.exponents.specs.Tests.{both, both-left, both-right, either, either-cases}
 use Rattle.numbers.specs.Lists.{_∈_, sum, Distinct, none, more}
@@ -39,11 +39,13 @@ use Rattle.specification.specs.Table.{
   mostPart,
   mostTicks,
   mostEvents,
+  mostOver,
   Table,
   portCount,
   linkCount,
   port,
   link,
+  isBuffer,
   IsPort,
   IsLink,
   from,
@@ -54,11 +56,13 @@ use Rattle.specification.specs.Table.{
   IsBuffer,
   ε⁺,
   ε⁻,
+  δ⁻,
+  δ°,
 }
 use Rattle.table.specs.WellFormed.{PartFits, PortFits, LinkFits, WellFormed}
 use Rattle.specification.specs.declared.Port.{Port}
 use Rattle.specification.specs.declared.Link.{Link}
-use Rattle.specification.specs.Ratios.{Joined, Component, IsComponent, Proportional, Weights, Overweight, mostWeight, SmallWeights}
+use Rattle.specification.specs.Ratios.{Joined, Component, IsComponent, Proportional, weighed⁺, weighed⁻, AllWhole, WholeWeights, Overweight, mostWeight, SmallWeights}
 use Rattle.ways.specs.WayLaws.{joined-refl, joined-sym, joined-trans, linked, component-unique}
 use Rattle.ways.specs.WeightLaws.{joined-proportion}
 use Rattle.period.specs.JustAbove.{above-zero-is}
@@ -170,8 +174,12 @@ linkTests n l =
     ∷ all (part (l .den))
     ∷ leb (l .ticks .0) mostTicks
     ∷ leb (l .ticks .1) mostTicks
-    ∷ leb (l .events .0) mostEvents
-    ∷ leb (l .events .1) mostEvents
+    ∷ leb (l .events .0) (mostEvents * l .over)
+    ∷ leb (l .events .1) (mostEvents * l .over)
+    ∷ ltb 0 (l .over)
+    ∷ leb (l .over) mostOver
+    ∷ leb 2 (l .kind)
+    ∷ leb (l .kind) 4
     ∷ []
 
 link-fits : (n : ℕ) (l : Link) → T (all (linkTests n l)) → LinkFits n l
@@ -184,6 +192,10 @@ link-fits n l h = record {
   ticks-back = lit≤ (passed (linkTests n l) h 5);
   events-forward = lit≤ (passed (linkTests n l) h 6);
   events-back = lit≤ (passed (linkTests n l) h 7);
+  over-least = lit< (passed (linkTests n l) h 8);
+  over-most = lit≤ (passed (linkTests n l) h 9);
+  kind-least = lit≤ (passed (linkTests n l) h 10);
+  kind-most = lit≤ (passed (linkTests n l) h 11);
 }
 
 module _ (t : Table) where
@@ -252,34 +264,83 @@ module _ (t : Table) where
       chained : (k : ℕ) → suc k < ports → Joins k
       chained k l = joins-is k (at (λ j. all (joins j)) (ports - 1) (passed single h 1) k (omega arith))
 
-  -- ---- the weights; the last port's is 1, so no smaller ones are in proportion
+  -- ---- the weights
+  abbrev last : ℕ
+  last = ports - 1
+
+  abbrev whole : (ℕ → ℕ) → ℕ → List Bool
+  whole w k =
+      eqb (weighed⁺ t w k) (δ° t k * (weighed⁺ t w k / δ° t k))
+      ∷ eqb (weighed⁻ t w k) (δ° t k * (weighed⁻ t w k / δ° t k))
+      ∷ []
+
+  -- the last link has the δ −1 / w and leaves the last port, whose weight is w
+  abbrev scaled : (ℕ → ℕ) → List Bool
+  scaled w =
+      ltb (links - 1) links
+      ∷ eqb (from t (links - 1)) last
+      ∷ eqb (δ⁻ t (links - 1)) 1
+      ∷ eqb (δ° t (links - 1)) (w last)
+      ∷ []
+
+  -- the last port's is 1, or as large as δ asks, so no smaller ones are in proportion and whole
   abbrev weighed : (ℕ → ℕ) → List Bool
   weighed w =
       below (λ p. ltb 0 (w p)) ports
       ∷ below (λ k. eqb (w (to t k) * num t k) (w (from t k) * den t k)) links
-      ∷ eqb (w (ports - 1)) 1
+      ∷ below (λ k. all (whole w k)) links
+      ∷ either (eqb (w last) 1) (all (scaled w))
       ∷ []
 
-  weights-are : (w : ℕ → ℕ) → Single → T (all (weighed w)) → Weights t w
-  weights-are w s h = record { proportional = proportional; smallest = smallest }
+  weights-are : (w : ℕ → ℕ) → Single → T (all (weighed w)) → WholeWeights t w
+  weights-are w s h = record { proportional = proportional; whole = all-whole; smallest = smallest }
     where
+      all-whole : AllWhole t w
+      all-whole = record {
+        each = λ k i.
+            let tests = at (λ j. all (whole w j)) links (passed (weighed w) h 2) k (i .below) in
+            record {
+              forward = record { quotient = weighed⁺ t w k / δ° t k; is = equal (passed (whole w k) tests 0) };
+              back = record { quotient = weighed⁻ t w k / δ° t k; is = equal (passed (whole w k) tests 1) };
+            };
+      }
+
+      last-port : IsPort t last
+      last-port = record { below = omega (arith, s .formed .some-port) }
+
+      -- the denominator divides 1 times the weight
+      asked : (v : ℕ → ℕ) → Proportional t v → AllWhole t v → T (all (scaled w)) → w last ≤ v last
+      asked v k a tests =
+          let j : ℕ = links - 1 in
+          let sender : from t j ≡ last = equal (passed (scaled w) tests 1) in
+          let one : δ⁻ t j ≡ 1 = equal (passed (scaled w) tests 2) in
+          let over : δ° t j ≡ w last = equal (passed (scaled w) tests 3) in
+          let back = a .each j (record { below = lit< (passed (scaled w) tests 0) }) .back in
+          divides-≤ (record {
+            quotient = back .quotient;
+            is = omega (arith, back .is, ap v sender, ap (λ (x : ℕ). x * v (from t j)) one, ap (λ (x : ℕ). x * back .quotient) over);
+          }) (k .positive last last-port)
+
+      last-least : (v : ℕ → ℕ) → Proportional t v → AllWhole t v → w last ≤ v last
+      last-least v k a = ⊎-elim
+          (λ (one : T (eqb (w last) 1)). let e : w last ≡ 1 = equal one in omega (arith, k .positive last last-port))
+          (λ tests. asked v k a tests)
+          (either-cases (eqb (w last) 1) (all (scaled w)) (passed (weighed w) h 3))
+
       proportional : Proportional t w
       proportional = record {
         positive = λ p i. lit< (at (λ q. ltb 0 (w q)) ports (passed (weighed w) h 0) p (i .below));
         fits = λ k i. equal (at (λ j. eqb (w (to t j) * num t j) (w (from t j) * den t j)) links (passed (weighed w) h 1) k (i .below));
       }
 
-      smallest : (v : ℕ → ℕ) → Proportional t v → (p : ℕ) → IsPort t p → w p ≤ v p
-      smallest v k p i =
-          let last : ports - 1 < ports = omega (arith, s .formed .some-port) in
-          let joined = joined-trans (s .component p (i .below) .joined) (joined-sym (s .component (ports - 1) last .joined)) in
-          let one : w (ports - 1) ≡ 1 = equal (passed (weighed w) h 2) in
-          omega (
+      smallest : (v : ℕ → ℕ) → Proportional t v → AllWhole t v → (p : ℕ) → IsPort t p → w p ≤ v p
+      smallest v k a p i =
+          let joined = joined-trans (s .component p (i .below) .joined) (joined-sym (s .component last (last-port .below) .joined)) in
+          le-of-mul-le-mul-right {k = w last} (omega (
             arith,
             joined-proportion proportional k (s .formed) joined,
-            ap (λ (x : ℕ). v p * x) one,
-            mul-le-mul-right (w p) (k .positive (ports - 1) (record { below = last })),
-          )
+            mul-le-mul-right (w p) (last-least v k a),
+          )) (proportional .positive last last-port)
 
   -- number 14
   abbrev over : (ℕ → ℕ) → List Bool
@@ -297,7 +358,7 @@ module _ (t : Table) where
   -- ---- limits of a/b and blocking cycles
   abbrev walks : ℕ → ℕ → List ℕ → Bool
   walks p q [] = eqb p q
-  walks p q (k ∷ path) = all (ltb k links ∷ not (link t k .buffer) ∷ eqb p (from t k) ∷ walks (to t k) q path ∷ [])
+  walks p q (k ∷ path) = all (ltb k links ∷ not (isBuffer (link t k)) ∷ eqb p (from t k) ∷ walks (to t k) q path ∷ [])
 
   module _ (w : ℕ → ℕ) where
     abbrev graph : Graph
@@ -339,10 +400,10 @@ module _ (t : Table) where
       walk-is : (p q : ℕ) (path : List ℕ) → T (walks p q path) → Walk graph p q path
       walk-is p q [] h = rw (eqb→eq p q h) stop
       walk-is p q (k ∷ path) h =
-          let tests = ltb k links ∷ not (link t k .buffer) ∷ eqb p (from t k) ∷ walks (to t k) q path ∷ [] in
+          let tests = ltb k links ∷ not (isBuffer (link t k)) ∷ eqb p (from t k) ∷ walks (to t k) q path ∷ [] in
           let c : IsConnection t k = record {
             a-link = record { below = lit< (passed tests h 0) };
-            events = is-false (link t k .buffer) (passed tests h 1);
+            events = is-false (isBuffer (link t k)) (passed tests h 1);
           } in
           rw (eqb→eq p (from t k) (passed tests h 2)) (step k (connected c) (walk-is (to t k) q path (passed tests h 3)))
 
@@ -542,7 +603,7 @@ no-fewer x y z d e h f = ⊎-elim
 module _ (t : Table) (r : Timing) where
   -- (2) at a/b
   abbrev meets : ℕ → ℕ → ℕ → Bool
-  meets a b k = either (link t k .buffer) (leb
+  meets a b k = either (isBuffer (link t k)) (leb
       (r .start (from t k) + gain (graph t (r .weight)) a b k)
       (r .start (to t k) + loss (graph t (r .weight)) a b k))
 
@@ -553,7 +614,7 @@ module _ (t : Table) (r : Timing) where
   -- the start of port k + 1 is just what connection k asks
   abbrev asked : ℕ → ℕ → ℕ → List Bool
   asked a b k =
-      not (link t k .buffer)
+      not (isBuffer (link t k))
       ∷ eqb (r .start (suc k) + loss (graph t (r .weight)) a b k) (r .start k + gain (graph t (r .weight)) a b k)
       ∷ []
 
@@ -582,7 +643,7 @@ module _ (t : Table) (r : Timing) where
   fewest k = enough k (r .size k) ∷ either (eqb (r .size k) 0) (not (enough k (r .size k - 1))) ∷ []
 
   abbrev sized : ℕ → Bool
-  sized k = either (not (link t k .buffer)) (all (fewest k))
+  sized k = either (not (isBuffer (link t k))) (all (fewest k))
 
   abbrev consistent : Floor → List Bool
   consistent floor =
@@ -605,7 +666,7 @@ module _ (t : Table) (r : Timing) where
     starts-least s e h S f (suc k) l =
         let j = s .chain k l in
         let tests = at (λ i. all (asked a b i)) (ports t - 1) h k (omega arith) in
-        let c : IsConnection t k = record { a-link = j .a-link; events = is-false (link t k .buffer) (passed (asked a b k) tests 0) } in
+        let c : IsConnection t k = record { a-link = j .a-link; events = is-false (isBuffer (link t k)) (passed (asked a b k) tests 0) } in
         let exact : r .start (suc k) + loss (graph t (r .weight)) a b k ≡ r .start k + gain (graph t (r .weight)) a b k =
         equal (passed (asked a b k) tests 1) in
         omega (

@@ -10,7 +10,7 @@ use Rattle.numbers.specs.RationalLaws.{≼-trans, ≈-≼, ≈-sym, ⊕-right-�
 use Rattle.specification.specs.Periods.{Graph, gain, loss, Meets, Serves, PortIn, ConnectionIn, graphIn}
 use Rattle.table.specs.WellFormed.{WellFormed}
 use Rattle.specification.specs.Table.{Table, IsPort, IsLink, from, to, den, IsBuffer}
-use Rattle.specification.specs.Ratios.{Joined, Component, Proportional}
+use Rattle.specification.specs.Ratios.{Joined, Component, Proportional, AllWhole}
 use Rattle.ways.specs.WayLaws.{joined-sym, joined-trans, linked}
 use Rattle.ways.specs.WeightLaws.{disagreeing as not-agreeing}
 use Rattle.period.specs.Limits.{limit-below, rate-below, blocked as blocked-serves, blocked-above-zero, period-least}
@@ -86,6 +86,9 @@ module _ {t : Table} (formed : WellFormed t) where
     prop : Proportional t (r .weight)
     prop = h .weights .weights .proportional
 
+    all-whole : AllWhole t (r .weight)
+    all-whole = h .weights .weights .whole
+
     period-below : {p a b : ℕ} → IsPort t p → Serves (graphIn t (r .weight) (r .component p)) a b → r .a p * b ≤ a * r .b p
     period-below {p} i s = period-least (h .periods p i) s
 
@@ -133,10 +136,10 @@ module _ {t : Table} (formed : WellFormed t) where
       above-zero = λ p i. omega (arith, mul-pos (prop .positive p i) (h .periods p i .above-zero));
       ratios = timing-ratios;
       starts = record {
-        holds = λ k l.
+        holds = λ k l some.
             let i = from-port formed k (l .a-link) in
             let e : ConnectionIn t (r .component (from t k)) k = record { connection = l; component = h .components (from t k) i } in
-            ≼-trans (≈-≼ (edge-cost formed (periods-over (from t k) i) (startOf r) k e)) (starts-meet k i e);
+            ≼-trans (≈-≼ (edge-cost formed all-whole (periods-over (from t k) i) (startOf r) k some e)) (starts-meet k i e);
       };
       rates = record {
         holds = λ p i. omega (arith, h .periods p i .serves .rates p (own-component p i));
@@ -146,7 +149,7 @@ module _ {t : Table} (formed : WellFormed t) where
     -- ---- of least periods
     timing-periods : (s : Solution t) (p : ℕ) → IsPort t p → periodOf r p ≼ s .period p
     timing-periods s p i =
-        let v = solution-serves formed s prop (names-component formed i (h .components p i)) in
+        let v = solution-serves formed s prop all-whole (names-component formed i (h .components p i)) in
         let less : periodOf r p ≼ share (r .weight p * v .a) (v .b) (v .over) =
         omega (arith, mul-le-mul-right (r .weight p) (period-below i (v .serves))) in
         ≼-trans less (≈-≼ (v .periods .is p (own-component p i)))
@@ -158,7 +161,7 @@ module _ {t : Table} (formed : WellFormed t) where
       rounded-meets p i = record {
         holds = λ k e.
             rounded-≼ (r .over p) _ _ (not-below (from t k) (from-in formed e .a-port)) (not-below (to t k) (to-in formed e .a-port))
-            (starts-over formed (periods-over p i) starts .holds k e);
+            (starts-over formed all-whole (periods-over p i) starts .holds k e);
       }
 
       timing-starts : (p : ℕ) → IsPort t p → startOf r p ≼ T p
@@ -198,7 +201,7 @@ module _ {t : Table} (formed : WellFormed t) where
   -- ---- no solution
   pub none-blocked : {floor : Floor} {block : List ℕ} → NoPeriod t floor block → ¬ Solution t
   none-blocked {floor} {block} n s =
-      let v = solution-serves formed s (n .weights .weights .proportional) (n .component) in
+      let v = solution-serves formed s (n .weights .weights .proportional) (n .weights .weights .whole) (n .component) in
       blocked-none floor block (n .is-blocked) (v .above-zero) (v .over) (v .serves)
 
 -- an answer of another number than 0 and 17, where no solution exists or the number is 14

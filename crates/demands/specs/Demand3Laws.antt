@@ -9,5 +9,5 @@ use Rattle.demands.specs.TightPeriod.{tight-period}
 pub demand-3 : {t : Table} {r : Timing} → WellFormed t → Consistent t r → Demand3 t r
 demand-3 formed right = record {
   bounded = bounded-chains formed right;
-  tight = λ p i ones. tight-period formed right i ones;
+  tight = λ p i ones wholes. tight-period formed right i ones wholes;
 }

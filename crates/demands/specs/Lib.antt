@@ -13,5 +13,6 @@ pub mod Reordered
 pub mod OrderLaws
 pub mod OneAnswer
 pub mod BoundedChains
+pub mod WaitLaws
 pub mod TightPeriod
 pub mod Demand3Laws

@@ -9,7 +9,7 @@ use Rattle.numbers.specs.RationalLaws.{≼-trans, ≈-≼, ≈-refl, ≺-≼-tr
 use Rattle.specification.specs.Periods.{gain, loss, Possible, HasPeriod, PortIn, ConnectionIn, graphIn}
 use Rattle.table.specs.WellFormed.{WellFormed}
 use Rattle.specification.specs.Table.{Table, portCount, IsPort, IsLink, from, to, num, den}
-use Rattle.specification.specs.Ratios.{Component, IsComponent, Proportional}
+use Rattle.specification.specs.Ratios.{Component, IsComponent, Proportional, AllWhole}
 use Rattle.ways.specs.WayLaws.{component-unique, joined-component, linked}
 use Rattle.specification.specs.Answers.{NoLeastPeriod}
 use Rattle.specification.specs.Solutions.{Solution, SmallerAt, NoLeastSolution}
@@ -55,7 +55,7 @@ module _ {t : Table} {component : ℕ → ℕ} (formed : WellFormed t) (componen
       below (no f) = not-named w (λ k. f (k .a-port .below))
 
   -- ---- the periods and starts of all components together
-  module _ {w : ℕ → ℕ} (prop : Proportional t w) (periods : (c : ℕ) → HasPeriod (graphIn t w c)) where
+  module _ {w : ℕ → ℕ} (prop : Proportional t w) (whole : AllWhole t w) (periods : (c : ℕ) → HasPeriod (graphIn t w c)) where
     possible-at : (c : ℕ) → Possible (graphIn t w c) (periods c .a) (periods c .b)
     possible-at c = periods c .possible
 
@@ -98,10 +98,10 @@ module _ {t : Table} {component : ℕ → ℕ} (formed : WellFormed t) (componen
         above-zero = λ p i. omega (arith, mul-pos (prop .positive p i) (possible-at (component p) .above-zero));
         ratios = record { holds = λ k l. rw (same-component k l) (ratio-in (component (from t k)) k l) };
         starts = record {
-          holds = λ k l.
+          holds = λ k l some.
               let c = component (from t k) in
               let e : ConnectionIn t c k = record { connection = l; component = components (from t k) (from-port formed k (l .a-link)) } in
-              ≼-trans (≈-≼ (edge-cost formed (periods-over c) own-start k e)) (starts-meet c k e);
+              ≼-trans (≈-≼ (edge-cost formed whole (periods-over c) own-start k some e)) (starts-meet c k e);
         };
         rates = record {
           holds = λ p i. omega (arith, possible-at (component p) .rates p (record { a-port = i; component = components p i }));
@@ -131,23 +131,26 @@ module _ {t : Table} (formed : WellFormed t) (n : NoLeastPeriod t) where
   prop-of : Proportional t (n .w)
   prop-of = n .weights .weights .proportional
 
+  whole-of : AllWhole t (n .w)
+  whole-of = n .weights .weights .whole
+
   periods-of : (d : ℕ) → HasPeriod (graphIn t (n .w) d)
   periods-of = every-number formed (n .components) (n .w) (n .periods)
 
   pub no-least-solved : Solution t
-  no-least-solved = periods-solution formed (n .components) prop-of periods-of
+  no-least-solved = periods-solution formed (n .components) prop-of whole-of periods-of
 
   smaller-solution : (s : Solution t) → SmallerAt t (n .c) s
   smaller-solution s =
       let i = n .is-component in
-      let v = solution-serves formed s prop-of i in
+      let v = solution-serves formed s prop-of whole-of i in
       let m = n .no-least .smaller (v .a) (v .b) (v .above-zero) (v .over) (v .serves) in
       let periods : (d : ℕ) → HasPeriod (graphIn t (n .w) d) = λ d. replaced (n .w) (m .possible) periods-of d (ℕ-discrete d (n .c)) in
       let own = named-own formed (n .components) i in
       let less = replaced-less (n .w) (m .possible) periods-of (v .a) (v .b) (n .component (n .c)) (ℕ-discrete (n .component (n .c)) (n .c)) own (m .less) in
       record {
-        other = periods-solution formed (n .components) prop-of periods;
-        less = ≺-≼-trans (solution-less formed (n .components) prop-of periods (v .a) (v .b) (v .over) (i .a-port) less)
+        other = periods-solution formed (n .components) prop-of whole-of periods;
+        less = ≺-≼-trans (solution-less formed (n .components) prop-of whole-of periods (v .a) (v .b) (v .over) (i .a-port) less)
             (≈-≼ (v .periods .is (n .c) (record { a-port = i .a-port; component = i .lowest })));
       }
 

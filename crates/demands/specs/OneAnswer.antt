@@ -7,7 +7,7 @@ use native.Mathlib.Nat.{le-antisymm, le-refl}
 use native.Mathlib.Omega.{arith}
 use Rattle.specification.specs.Bytes.{bufferAnswer}
 use Rattle.specification.specs.Reading.{readTable}
-use Rattle.specification.specs.Table.{Table, portCount, linkCount, link, from, to, IsBuffer}
+use Rattle.specification.specs.Table.{Table, portCount, linkCount, link, isBuffer, from, to, IsBuffer}
 use Rattle.specification.specs.Bracketing.{SamePort}
 use Rattle.specification.specs.Answers.{Timing, Answer, bufferRecords, Enough, Consistent, AnswerOf}
 use Rattle.demands.specs.Demands.{SameAnswer}
@@ -52,7 +52,7 @@ module _ {t : Table} (o : TwoOrders t t) where
     same-buffers zero m = refl
     same-buffers (suc n) m = rw (
       same-buffers n (omega arith),
-      buffer-same n (link t n .buffer) (λ e. same-size (record { a-link = record { below = m }; no-events = e })),
+      buffer-same n (isBuffer (link t n)) (λ e. same-size (record { a-link = record { below = m }; no-events = e })),
     )
 
 -- ---- two answers

@@ -8,15 +8,16 @@ use native.Mathlib.Decide.{ℕ-discrete}
 use native.Mathlib.Nat.{le-antisymm, eq-of-mul-eq-mul-left, eq-of-mul-eq-mul-right}
 use native.Mathlib.Omega.{arith}
 use lib.ListN.{length, getD}
-use Rattle.numbers.specs.Rationals.{Rational, _≼_, _≈_, _⊕_, _·_, _⊗_, signed, whole}
+use Rattle.numbers.specs.Rationals.{Rational, _≼_, _≈_, _⊕_, _·_, _⊗_, signed, ratio, whole}
 use Rattle.numbers.specs.RationalLaws.{≼-trans, ≼-not-≺, ≼-antisym, ≈-≼, ≈-sym}
+use Rattle.numbers.specs.Divisors.{Divides}
 use Rattle.numbers.specs.Gcd.{coprime-unique}
 use Rattle.numbers.specs.ListLaws.{lt-or-le}
 use Rattle.table.specs.WellFormed.{WellFormed}
 use Rattle.table.specs.ReadingLaws.{well-formed}
 use Rattle.specification.specs.Reading.{readTable}
-use Rattle.specification.specs.Table.{Table, noPort, IsPort, IsLink, IsConnection, from}
-use Rattle.specification.specs.Ratios.{Step, Way, stay, walk, leaves, comes, Joined, Component, Proportional, Weights, SmallWeights, Overweight, DisagreeingLoop}
+use Rattle.specification.specs.Table.{Table, noPort, IsPort, IsLink, IsConnection, isBuffer, from}
+use Rattle.specification.specs.Ratios.{Step, Way, stay, walk, leaves, comes, Joined, Component, Proportional, AllWhole, WholeWeights, SmallWeights, Overweight, DisagreeingLoop}
 use Rattle.specification.specs.Bracketing.{SamePort, SameUpToOrder}
 use Rattle.specification.specs.Solutions.{Starts, IsSolution, Solution, LeastSolution}
 use Rattle.specification.specs.Answers.{
@@ -43,7 +44,8 @@ use Rattle.specification.specs.Answers.{
 use Rattle.specification.specs.declared.Port.{Port}
 use Rattle.specification.specs.declared.Link.{Link}
 use Rattle.ways.specs.WayLaws.{joined-refl, joined-trans, component-unique}
-use Rattle.ways.specs.WeightLaws.{no-proportion, weights-unique}
+use Rattle.ways.specs.WeightLaws.{no-proportion}
+use Rattle.ways.specs.WholeLaws.{whole-unique}
 use Rattle.demands.specs.ConstraintLaws.{from-port}
 use Rattle.demands.specs.SolutionLaws.{added-≈}
 use Rattle.demands.specs.NoLeastLaws.{no-least-solved, no-least-solution}
@@ -74,18 +76,28 @@ module _ {t u : Table} (same : Reordered t u) where
         (h .fits (same .there .place k i) (same .there .a-link k i));
   }
 
+  whole-back : {w : ℕ → ℕ} → AllWhole u w → AllWhole t w
+  whole-back {w} h = record {
+    each = λ k i.
+        let whole = h .each (same .there .place k i) (same .there .a-link k i) in
+        record {
+          forward = subst (λ (l : Link). Divides (l .over) (l .events .0 * w (l .from))) (same .there .is k i) (whole .forward);
+          back = subst (λ (l : Link). Divides (l .over) (l .events .1 * w (l .from))) (same .there .is k i) (whole .back);
+        };
+  }
+
   connection-there : {k : ℕ} (i : IsConnection t k) → IsConnection u (same .there .place k (i .a-link))
   connection-there {k} i = record {
     a-link = same .there .a-link k (i .a-link);
-    events = ap (λ (l : Link). l .buffer) (same .there .is k (i .a-link)) ∙ i .events;
+    events = ap isBuffer (same .there .is k (i .a-link)) ∙ i .events;
   }
 
   starts-back : {P S : ℕ → Rational} → Starts u P S → Starts t P S
   starts-back {P} {S} h = record {
     holds = λ k i.
         subst
-        (λ (l : Link).
-        S (l .from) ⊕ signed (l .ticks .0) (l .ticks .1) ⊕ signed (l .events .0) (l .events .1) ⊗ P (l .from) ≼ S (l .to))
+        (λ (l : Link). (some : 0 < l .over)
+        → S (l .from) ⊕ signed (l .ticks .0) (l .ticks .1) ⊕ ratio (l .events .0) (l .events .1) (l .over) some ⊗ P (l .from) ≼ S (l .to))
         (same .there .is k (i .a-link))
         (h .holds (same .there .place k (i .a-link)) (connection-there i));
   }
@@ -112,10 +124,12 @@ component-back same h = record {
   lowest = λ q j. h .lowest q (way-there same (j .way));
 }
 
-weights-back : {t u : Table} {w : ℕ → ℕ} → Reordered t u → Weights u w → Weights t w
+weights-back : {t u : Table} {w : ℕ → ℕ} → Reordered t u → WholeWeights u w → WholeWeights t w
 weights-back same h = record {
   proportional = proportional-back same (h .proportional);
-  smallest = λ v k p i. h .smallest v (proportional-back (reordered-back same) k) p (port-there same i);
+  whole = whole-back same (h .whole);
+  smallest = λ v k a p i.
+      h .smallest v (proportional-back (reordered-back same) k) (whole-back (reordered-back same) a) p (port-there same i);
 }
 
 -- ---- two consistent answers
@@ -130,10 +144,10 @@ exchange o = record { one = o .other; other = o .one; same = reordered-back (o .
 
 starts-≈ : {t : Table} {P Q S : ℕ → Rational} → WellFormed t → ((p : ℕ) → IsPort t p → P p ≈ Q p) → Starts t P S → Starts t Q S
 starts-≈ {t} {S = S} formed same h = record {
-  holds = λ k l.
+  holds = λ k l some.
       ≼-trans
-      (≈-≼ (added-≈ t k (S (from t k)) (≈-sym (same (from t k) (from-port formed k (l .a-link))))))
-      (h .holds k l);
+      (≈-≼ (added-≈ t k some (S (from t k)) (≈-sym (same (from t k) (from-port formed k (l .a-link))))))
+      (h .holds k l some);
 }
 
 least-of : {t : Table} {r : Timing} → WellFormed t → Consistent t r → LeastSolution t r
@@ -165,7 +179,7 @@ start-least {r′ = r′} o h h′ p i =
 pub same-port : {t u : Table} {r r′ : Timing} → TwoOrders t u → Consistent t r → Consistent u r′ → (p : ℕ) → IsPort t p → SamePort r r′ p
 same-port {r = r} {r′ = r′} o h h′ p i =
     let i′ = port-there (o .same) i in
-    let weight = weights-unique (h .weights .weights) (weights-back (o .same) (h′ .weights .weights)) p i in
+    let weight = whole-unique (h .weights .weights) (weights-back (o .same) (h′ .weights .weights)) p i in
     let period = h .periods p i in
     let period′ = h′ .periods p i′ in
     let parts = coprime-unique (period .lowest) (period′ .lowest) (period′ .over)
@@ -191,13 +205,13 @@ same-port-records (suc n) same =
     rw (same-port-records n (λ p h. same p (omega arith)), s .component, s .weight, s .a, s .b, s .start)
 
 -- ---- answers of two numbers
-not-disagreeing : {t u : Table} {loop : List Step} {w : ℕ → ℕ} → TwoOrders t u → DisagreeingLoop t loop → ¬ Weights u w
+not-disagreeing : {t u : Table} {loop : List Step} {w : ℕ → ℕ} → TwoOrders t u → DisagreeingLoop t loop → ¬ WholeWeights u w
 not-disagreeing o l h = no-proportion (l .way) (l .unequal) (o .one) (proportional-back (o .same) (h .proportional))
 
 not-overweight : {t u : Table} {w : ℕ → ℕ} → TwoOrders t u → Overweight t → ¬ SmallWeights u w
 not-overweight o l h = omega (
   arith,
-  weights-unique (l .weights) (weights-back (o .same) (h .weights)) (l .at) (l .a-port),
+  whole-unique (l .weights) (weights-back (o .same) (h .weights)) (l .at) (l .a-port),
   h .small (l .at) (port-there (o .same) (l .a-port)),
   l .passes,
 )

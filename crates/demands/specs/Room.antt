@@ -14,7 +14,7 @@ use Rattle.numbers.specs.ListLaws.{pigeonhole}
 use Rattle.specification.specs.Periods.{Cycle, graphIn}
 use Rattle.rounds.specs.Walks.{Among, cycle-short}
 use Rattle.table.specs.WellFormed.{WellFormed}
-use Rattle.specification.specs.Table.{Table, portCount, linkCount, link, IsLink, from, to}
+use Rattle.specification.specs.Table.{Table, portCount, linkCount, link, isBuffer, IsLink, from, to}
 use Rattle.specification.specs.Ratios.{Step, comes, Way, stay, walk}
 use Rattle.specification.specs.Answers.{
   Timing,
@@ -55,7 +55,7 @@ pub buffer-records : (t : Table) (r : Timing) (n : ℕ) → length (bufferRecord
 unfolding bufferRecords
 buffer-records t r zero = omega arith
 buffer-records t r (suc n) =
-    simp length-append (omega (arith, buffer-records t r n, buffer-record (link t n .buffer) n (r .size n)))
+    simp length-append (omega (arith, buffer-records t r n, buffer-record (isBuffer (link t n)) n (r .size n)))
 
 -- a step of a loop has two numbers
 pub loop-numbers : (loop : List Step) → length (loopNumbers loop) ≡ 2 * length loop

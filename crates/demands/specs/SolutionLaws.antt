@@ -6,16 +6,16 @@ use mathlib.Core.List.{List, _∷_}
 use native.Mathlib.Nat.{mul-pos, le-of-mul-le-mul-right}
 use native.Mathlib.Omega.{arith}
 use Rattle.numbers.specs.Rationals.{Rational, _≼_, _≈_, _⊕_, _⊗_, _·_, share, ratio}
-use Rattle.numbers.specs.RationalLaws.{≼-trans, ≺-≼, ≈-≼, ≈-sym, ≈-trans, ⊕-right-≼, ⊕-≈, ≈-refl, ⊗-left-≈, ·-≼, ·-≈, ·-·, ·-cancel-≈, factor-≈, as-share}
+use Rattle.numbers.specs.RationalLaws.{≼-trans, ≺-≼, ≈-≼, ≈-sym, ≈-trans, ⊕-right-≼, ⊕-≈, ≈-refl, ⊗-left-≈, ·-≼, ·-≈, ·-·, ·-cancel-≈, factor-≈, as-share, ≈-scaled}
 use Rattle.numbers.specs.Lists.{sum}
 use Rattle.specification.specs.Periods.{Graph, Walk, stop, step, gain, loss, Serves, PortIn, ConnectionIn, graphIn}
 use Rattle.table.specs.WellFormed.{WellFormed}
-use Rattle.specification.specs.Table.{Table, IsLink, from, to, num, den}
-use Rattle.specification.specs.Ratios.{Step, leaves, comes, Way, stay, walk, above, below, Joined, Proportional, IsComponent}
+use Rattle.specification.specs.Table.{Table, IsLink, from, to, num, den, δ°}
+use Rattle.specification.specs.Ratios.{Step, leaves, comes, Way, stay, walk, above, below, Joined, Proportional, AllWhole, IsComponent}
 use Rattle.ways.specs.Agree.{Agree}
 use Rattle.ways.specs.WayLaws.{above-positive, step-port}
 use Rattle.ways.specs.WeightLaws.{proportional-way}
-use Rattle.demands.specs.ConstraintLaws.{from-in}
+use Rattle.demands.specs.ConstraintLaws.{from-in, some-over, forward-whole, back-whole}
 use Rattle.specification.specs.Solutions.{ε, δ, Ratios, Starts, Solution}
 
 -- factors change places
@@ -64,8 +64,9 @@ module _ {t : Table} (formed : WellFormed t) (s : Solution t) where
 
 -- ---- over one denominator
 -- what a connection adds to a start depends on the value of the period alone
-pub added-≈ : {x y : Rational} (t : Table) (k : ℕ) (s : Rational) → x ≈ y → s ⊕ ε t k ⊕ δ t k ⊗ x ≈ s ⊕ ε t k ⊕ δ t k ⊗ y
-added-≈ t k s e = ⊕-≈ (≈-refl (s ⊕ ε t k)) (⊗-left-≈ (δ t k) e)
+pub added-≈ : {x y : Rational} (t : Table) (k : ℕ) (some : 0 < δ° t k) (s : Rational) → x ≈ y
+    → s ⊕ ε t k ⊕ δ t k some ⊗ x ≈ s ⊕ ε t k ⊕ δ t k some ⊗ y
+added-≈ t k some s e = ⊕-≈ (≈-refl (s ⊕ ε t k)) (⊗-left-≈ (δ t k some) e)
 
 -- (2) at a/b for rational starts
 pub record MeetsOver (g : Graph) (a b : ℕ) (over : 0 < b) (S : ℕ → Rational) : Type 0 where
@@ -100,21 +101,29 @@ pub record Served (t : Table) (w : ℕ → ℕ) (c : ℕ) (P : ℕ → Rational)
 
 module _ {t : Table} (formed : WellFormed t) where
   -- over b that is gain − loss
-  pub edge-cost : {w : ℕ → ℕ} {P : ℕ → Rational} {a b c : ℕ} {over : 0 < b} → PeriodsOver t w c P a b over
-      → (S : ℕ → Rational) (k : ℕ)
+  pub edge-cost : {w : ℕ → ℕ} {P : ℕ → Rational} {a b c : ℕ} {over : 0 < b} → AllWhole t w → PeriodsOver t w c P a b over
+      → (S : ℕ → Rational) (k : ℕ) (some : 0 < δ° t k)
       → ConnectionIn t c k
-      → S (from t k) ⊕ ε t k ⊕ δ t k ⊗ P (from t k)
+      → S (from t k) ⊕ ε t k ⊕ δ t k some ⊗ P (from t k)
       ≈ S (from t k) ⊕ ratio (gain (graphIn t w c) a b k) (loss (graphIn t w c) a b k) b over
-  edge-cost periods S k e =
-      ≈-trans (added-≈ t k (S (from t k)) (≈-sym (periods .is (from t k) (from-in formed e)))) (omega arith)
+  edge-cost {w} {a = a} {b = b} {c = c} {over = over} whole periods S k some e =
+      let i = e .connection .a-link in
+      let d = ratio (graphIn t w c .D⁺ k * a) (graphIn t w c .D⁻ k * a) b over in
+      let part : d ≈ δ t k some ⊗ share (w (from t k) * a) b over = ≈-scaled (δ° t k)
+      (omega (arith, ap (λ (n : ℕ). n * a) (forward-whole whole k i))) (omega (arith, ap (λ (n : ℕ). n * a) (back-whole whole k i))) (omega arith) in
+      ≈-trans (added-≈ t k some (S (from t k)) (≈-sym (periods .is (from t k) (from-in formed e))))
+      (≈-trans (⊕-≈ (≈-refl (S (from t k) ⊕ ε t k)) (≈-sym part)) (omega arith))
 
-  pub starts-over : {w : ℕ → ℕ} {P S : ℕ → Rational} {a b c : ℕ} {over : 0 < b} → PeriodsOver t w c P a b over → Starts t P S
+  pub starts-over : {w : ℕ → ℕ} {P S : ℕ → Rational} {a b c : ℕ} {over : 0 < b} → AllWhole t w → PeriodsOver t w c P a b over → Starts t P S
       → MeetsOver (graphIn t w c) a b over S
-  starts-over {S = S} periods starts =
-      record { holds = λ k e. ≼-trans (≈-≼ (≈-sym (edge-cost periods S k e))) (starts .holds k (e .connection)) }
+  starts-over {S = S} whole periods starts = record {
+    holds = λ k e.
+        let some = some-over formed k (e .connection .a-link) in
+        ≼-trans (≈-≼ (≈-sym (edge-cost whole periods S k some e))) (starts .holds k (e .connection) some);
+  }
 
-  pub solution-serves : {w : ℕ → ℕ} {c : ℕ} (s : Solution t) → Proportional t w → IsComponent t c → Served t w c (s .period)
-  solution-serves {w} {c} s prop i = record {
+  pub solution-serves : {w : ℕ → ℕ} {c : ℕ} (s : Solution t) → Proportional t w → AllWhole t w → IsComponent t c → Served t w c (s .period)
+  solution-serves {w} {c} s prop whole i = record {
     a = a;
     b = b;
     above-zero = omega (arith, s .meets .above-zero c (i .a-port) .holds);
@@ -122,7 +131,7 @@ module _ {t : Table} (formed : WellFormed t) where
     periods = periods;
     serves = record {
       rates = λ p m. omega (arith, ≼-trans (s .meets .rates .holds p (m .a-port)) (·-≼ _ (≈-≼ (≈-sym (periods .is p m)))) .holds);
-      cycles = closed-cost (starts-over periods (s .meets .starts));
+      cycles = closed-cost (starts-over whole periods (s .meets .starts));
     };
   }
     where

@@ -1,7 +1,7 @@
 -- A table that was written as bytes is read back.
 use Prim.Native.Nat.{ℕ, zero, suc, _+_, _≤_, _<_}
 use mathlib.Core.Path.{_≡_, sym, ap, _∙_}
-use mathlib.Core.Bool.{true, cond}
+use mathlib.Core.Bool.{true}
 use mathlib.Core.List.{List, [], _∷_, _++_, append-assoc, append-nil, flatMap}
 use native.Mathlib.Omega.{arith}
 use lib.ListN.{length, length-append}
@@ -14,7 +14,7 @@ use Rattle.specification.specs.declared.Link.{Link}
 use Rattle.specification.specs.declared.Before.{Before}
 use Rattle.table.specs.WellFormed.{PortFits, LinkFits, OneSided, WellFormed}
 use Rattle.table.specs.ReadingLaws.{fits-more, bound-decides-nothing}
-use Rattle.encoding.specs.EncodingLaws.{port-length, link-length}
+use Rattle.encoding.specs.EncodingLaws.{port-length, linkSize, link-length}
 use Rattle.encoding.specs.RecordBack.{port-back, link-back}
 
 -- a table that may stand behind what was read before it
@@ -62,7 +62,7 @@ links-back (l ∷ ls) xs (suc n) b w enough =
     let front = xs ++ encodeLink l in
     let fits = fits-more (b .named) (w .links 0 (omega arith)) (omega arith) in
     let read = link-back xs (encodeLinks ls) l b fits (omega (arith, w .few-named)) (w .sided 0 (omega arith)) (omega (arith, w .few-links)) in
-    let at : length xs + cond (l .buffer) 16 20 ≡ length front = omega (arith, length-append xs (encodeLink l), link-length l) in
+    let at : length xs + linkSize l ≡ length front = omega (arith, length-append xs (encodeLink l), link-length l) in
     rw (read, at, ← append-assoc xs (encodeLink l) (encodeLinks ls), links-back ls front n (withLink b) (behind-link b l ls w) (omega arith))
 
 table-back : (ps : List Port) (ls : List Link) (xs : List ℕ) (n : ℕ) (b : Before) → Writable b (record { ports = ps; links = ls })

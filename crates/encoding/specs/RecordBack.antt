@@ -1,6 +1,7 @@
 -- A port or link that was written as bytes is read back, whatever stands before and behind its bytes.
 use Prim.Native.Nat.{ℕ, _+_, _*_, _-_, _^_, _≤_, _<_}
-use mathlib.Core.Path.{_≡_, refl, sym, ap, _∙_}
+use mathlib.Core.Path.{_≡_, refl, sym, _∙_}
+use mathlib.Core.Logic.{_≢_}
 use mathlib.Core.Bool.{Bool, true, false, cond, not, _||_}
 use mathlib.Core.List.{List, [], _++_}
 use native.Mathlib.Omega.{arith}
@@ -9,8 +10,8 @@ use lib.ListN.{length, length-append}
 use lib.Dec.{eqb}
 use borrow.Author.Tests.{lt-ltb, le-ltb, lt-leb, ne-eqb, eqb-true, eqb-false}
 use Rattle.specification.specs.Bytes.{numberAt, bytes, encode}
-use Rattle.specification.specs.Encoding.{signedWord, encodePort, linkFields, encodeLink}
-use Rattle.specification.specs.Table.{mostPorts, mostLinks, mostPart, mostTicks, mostEvents}
+use Rattle.specification.specs.Encoding.{signedWord, encodePort, linkFields, connectionFields, encodeLink}
+use Rattle.specification.specs.Table.{mostPorts, mostLinks, mostPart, mostTicks, mostEvents, mostOver, isBuffer}
 use Rattle.specification.specs.Reading.{
   forward,
   back,
@@ -20,6 +21,7 @@ use Rattle.specification.specs.Reading.{
   rateFaulty,
   endsFaulty,
   amountFaulty,
+  eventsFaulty,
   delaysFaulty,
   ticksAt,
   eventsAt,
@@ -29,6 +31,7 @@ use Rattle.specification.specs.Reading.{
   linkAt,
   connectionAt,
   bufferAt,
+  fractionAt,
   kindAt,
   recordAt,
 }
@@ -39,6 +42,7 @@ use Rattle.specification.specs.declared.Before.{Before}
 use Rattle.specification.specs.declared.Read.the-variants.{PortRecord, LinkRecord}
 use Rattle.records.specs.NumberLaws.{number-behind, number-bytes, number-in, length-field, kind-field, body-field, encode-length}
 use Rattle.table.specs.WellFormed.{PartFits, PortFits, LinkFits, OneSided}
+use Rattle.encoding.specs.EncodingLaws.{bufferBytes, fractionBytes, connectionBytes, linkSize}
 
 -- ---- the tests find no fault
 part-good : (x : ℕ) → PartFits x → partFaulty x ≡ false
@@ -48,6 +52,12 @@ part-good x h = rw (ne-eqb x 0 (λ e. omega (arith, h .least, e)), le-ltb mostPa
 amount-good : (most forward back : ℕ) → forward ≤ most → back ≤ most → amountFaulty most forward back ≡ false
 unfolding amountFaulty
 amount-good most forward back f b = rw (le-ltb most forward f, le-ltb most back b)
+
+events-good : (events : Events) (over : ℕ) → 0 < over → over ≤ mostOver → events .0 ≤ mostEvents * over → events .1 ≤ mostEvents * over
+    → eventsFaulty events over ≡ false
+unfolding eventsFaulty
+events-good events over least most f b =
+    rw (ne-eqb over 0 (λ e. omega (arith, least, e)), le-ltb mostOver over most, amount-good (mostEvents * over) (events .0) (events .1) f b)
 
 -- a rate of 0/0, or of two good parts
 rate-good : (s : List ℕ) (at : ℕ) (p : Port) → PortFits p → numberAt s at 2 ≡ p .num → numberAt s (at + 2) 2 ≡ p .den → rateFaulty s at ≡ false
@@ -93,10 +103,10 @@ module _ (xs : List ℕ) (kind : ℕ) (body ys : List ℕ) where
   abbrev input : List ℕ
   input = xs ++ (encode kind body ++ ys)
 
-  body-at : (at n : ℕ) {place : ℕ} → place ≡ length xs + (4 + at) → numberAt input place n ≡ numberAt (body ++ ys) at n
+  pub body-at : (at n : ℕ) {place : ℕ} → place ≡ length xs + (4 + at) → numberAt input place n ≡ numberAt (body ++ ys) at n
   body-at at n e = rw (e, number-behind) (body-field kind body ys at n)
 
-  kind-read : (b : Before) → kind < 256 ^ 2 → 2 + length body < 256 ^ 2
+  pub kind-read : (b : Before) → kind < 256 ^ 2 → 2 + length body < 256 ^ 2
       → recordAt input (length xs) b ≡ kindAt input (length xs) (2 + length body) kind b
   unfolding recordAt lengthFaulty
   kind-read b k h =
@@ -134,7 +144,7 @@ record FieldsAt (s : List ℕ) (at : ℕ) (l : Link) : Type 0 where
   ticks : ticksAt s (at + 12) ≡ l .ticks
 
 link-read : (s : List ℕ) (at : ℕ) (b : Before) (l : Link) (next : ℕ) → FieldsAt s at l → LinkFits (b .named) l → b .links < mostLinks
-    → linkAt s at b (l .events) (l .buffer) next ≡ LinkRecord l next
+    → linkAt s at b (l .events) (l .over) (l .kind) next ≡ LinkRecord l next
 unfolding linkAt endsFaulty partsFaulty delaysFaulty linkOf
 link-read s at b l next f fits room =
     let n : at + 4 + 4 ≡ at + 8 = omega arith in
@@ -153,12 +163,12 @@ link-read s at b l next f fits room =
       part-good (l .num) (fits .num),
       part-good (l .den) (fits .den),
       amount-good mostTicks (l .ticks .0) (l .ticks .1) (fits .ticks-forward) (fits .ticks-back),
-      amount-good mostEvents (l .events .0) (l .events .1) (fits .events-forward) (fits .events-back),
+      events-good (l .events) (l .over) (fits .over-least) (fits .over-most) (fits .events-forward) (fits .events-back),
     )
 
--- what a connection has behind these fields
-abbrev eventsBytes : Link → List ℕ
-eventsBytes l = bytes 4 (signedWord (l .events .0) (l .events .1))
+-- a kind that is neither 3 nor 4
+two-left : {n : ℕ} → 2 ≤ n → n ≤ 4 → n ≢ 3 → n ≢ 4 → n ≡ 2
+two-left least most d e = omega arith
 
 module _ (xs : List ℕ) (l : Link) (b : Before) (fits : LinkFits (b .named) l) (few : b .named ≤ mostPorts) (sided : OneSided l) where
   -- whatever more the record has
@@ -181,38 +191,58 @@ module _ (xs : List ℕ) (l : Link) (b : Before) (fits : LinkFits (b .named) l) 
         ticks = rw (word, ticks .forward-back, ticks .back-back);
       }
 
-  buffer-back : (ys : List ℕ) → l .buffer ≡ true → b .links < mostLinks
-      → recordAt (xs ++ (encode 3 (linkFields l) ++ ys)) (length xs) b ≡ LinkRecord l (length xs + 16)
+  -- the events of a connection stand behind them, whatever more there is
+  events-at : (kind : ℕ) (more ys : List ℕ) → eventsAt (xs ++ (encode kind (connectionFields l ++ more) ++ ys)) (length xs + 16) ≡ l .events
+  unfolding connectionFields linkFields bytes eventsAt
+  events-at kind more ys =
+      let body = connectionFields l ++ more in
+      let up : l .events .0 ≤ mostTicks = omega (arith, fits .events-forward, fits .over-most) in
+      let down : l .events .1 ≤ mostTicks = omega (arith, fits .events-back, fits .over-most) in
+      let events = signed-back (l .events .0) (l .events .1) up down (sided .events) in
+      let word = body-at xs kind body ys 12 4 {place = length xs + 16} (omega arith) ∙ number-in (linkFields l) (more ++ ys) 4 refl (events .small) in
+      rw (word, events .forward-back, events .back-back)
+
+  -- read with its events, denominator and kind, it is the link
+  of-kind : {s : List ℕ} {events : Events} {over kind : ℕ} (next : ℕ) → FieldsAt s (length xs) l → b .links < mostLinks → events ≡ l .events
+      → over ≡ l .over
+      → kind ≡ l .kind
+      → linkAt s (length xs) b events over kind next ≡ LinkRecord l next
+  of-kind {s} next f room events over kind = rw (events, over, kind) (link-read s (length xs) b l next f fits room)
+
+  buffer-back : (ys : List ℕ) → isBuffer l ≡ true → b .links < mostLinks
+      → recordAt (xs ++ (bufferBytes l ++ ys)) (length xs) b ≡ LinkRecord l (length xs + 16)
   unfolding linkFields bytes kindAt bufferAt
   buffer-back ys is room =
-      let s = xs ++ (encode 3 (linkFields l) ++ ys) in
-      let next = length xs + 16 in
+      let kind = eqb-true (l .kind) 3 is in
       kind-read xs 3 (linkFields l) ys b (omega arith) (omega arith)
-      ∙ ap (λ (e : Events). linkAt s (length xs) b e true next) (sym (sided .no-events is))
-      ∙ ap (λ (x : Bool). linkAt s (length xs) b (l .events) x next) (sym is)
-      ∙ link-read s (length xs) b l next (fields-at 3 [] ys) fits room
+      ∙ of-kind (length xs + 16) (fields-at 3 [] ys) room (sym (sided .no-events is)) (sym (sided .whole-events (ne-eqb (l .kind) 4 (λ e. omega (arith, e))))) (sym kind)
 
-  connection-back : (ys : List ℕ) → l .buffer ≡ false → b .links < mostLinks
-      → recordAt (xs ++ (encode 2 (linkFields l ++ eventsBytes l) ++ ys)) (length xs) b ≡ LinkRecord l (length xs + 20)
-  unfolding linkFields bytes kindAt connectionAt eventsAt
-  connection-back ys is room =
-      let body = linkFields l ++ eventsBytes l in
-      let s = xs ++ (encode 2 body ++ ys) in
-      let next = length xs + 20 in
-      let events = signed-back (l .events .0) (l .events .1) (omega (arith, fits .events-forward)) (omega (arith, fits .events-back)) (sided .events) in
-      let word = body-at xs 2 body ys 12 4 {place = length xs + 16} (omega arith) ∙ number-in (linkFields l) ys 4 refl (events .small) in
-      let read : eventsAt s (length xs + 16) ≡ l .events = rw (word, events .forward-back, events .back-back) in
-      kind-read xs 2 body ys b (omega arith) (omega arith)
-      ∙ ap (λ (e : Events). linkAt s (length xs) b e false next) read
-      ∙ ap (λ (x : Bool). linkAt s (length xs) b (l .events) x next) (sym is)
-      ∙ link-read s (length xs) b l next (fields-at 2 (eventsBytes l) ys) fits room
+  connection-back : (ys : List ℕ) → isBuffer l ≡ false → eqb (l .kind) 4 ≡ false → b .links < mostLinks
+      → recordAt (xs ++ (connectionBytes l ++ ys)) (length xs) b ≡ LinkRecord l (length xs + 20)
+  unfolding connectionFields linkFields bytes kindAt connectionAt
+  connection-back ys no-buffer no-fraction room =
+      let kind : l .kind ≡ 2 = two-left (fits .kind-least) (fits .kind-most) (eqb-false (l .kind) 3 no-buffer) (eqb-false (l .kind) 4 no-fraction) in
+      kind-read xs 2 (connectionFields l) ys b (omega arith) (omega arith)
+      ∙ of-kind (length xs + 20) (fields-at 2 (bytes 4 (signedWord (l .events .0) (l .events .1))) ys) room (events-at 2 [] ys) (sym (sided .whole-events no-fraction)) (sym kind)
+
+  fraction-back : (ys : List ℕ) → isBuffer l ≡ false → eqb (l .kind) 4 ≡ true → b .links < mostLinks
+      → recordAt (xs ++ (fractionBytes l ++ ys)) (length xs) b ≡ LinkRecord l (length xs + 24)
+  unfolding connectionFields linkFields bytes kindAt fractionAt
+  fraction-back ys no-buffer is room =
+      let kind = eqb-true (l .kind) 4 is in
+      let over = bytes 4 (l .over) in
+      let body = connectionFields l ++ over in
+      let word = body-at xs 4 body ys 16 4 {place = length xs + 20} (omega arith) ∙ number-in (connectionFields l) ys 4 refl (omega (arith, fits .over-most)) in
+      kind-read xs 4 body ys b (omega arith) (omega arith)
+      ∙ of-kind (length xs + 24) (fields-at 4 (bytes 4 (signedWord (l .events .0) (l .events .1)) ++ over) ys) room (events-at 4 over ys) word (sym kind)
 
 pub link-back : (xs ys : List ℕ) (l : Link) (b : Before) → LinkFits (b .named) l → b .named ≤ mostPorts → OneSided l → b .links < mostLinks
-    → recordAt (xs ++ (encodeLink l ++ ys)) (length xs) b ≡ LinkRecord l (length xs + cond (l .buffer) 16 20)
+    → recordAt (xs ++ (encodeLink l ++ ys)) (length xs) b ≡ LinkRecord l (length xs + linkSize l)
 unfolding encodeLink
-link-back xs ys l b fits few sided room = decided (l .buffer) refl
+link-back xs ys l b fits few sided room = decided (isBuffer l) (eqb (l .kind) 4) refl refl
   where
-    decided : (x : Bool) → l .buffer ≡ x
-        → recordAt (xs ++ (cond x (encode 3 (linkFields l)) (encode 2 (linkFields l ++ eventsBytes l)) ++ ys)) (length xs) b ≡ LinkRecord l (length xs + cond x 16 20)
-    decided true is = buffer-back xs l b fits few sided ys is room
-    decided false is = connection-back xs l b fits few sided ys is room
+    decided : (x y : Bool) → isBuffer l ≡ x → eqb (l .kind) 4 ≡ y
+        → recordAt (xs ++ (cond x (bufferBytes l) (cond y (fractionBytes l) (connectionBytes l)) ++ ys)) (length xs) b ≡ LinkRecord l (length xs + cond x 16 (cond y 24 20))
+    decided true y is _ = buffer-back xs l b fits few sided ys is room
+    decided false true d is = fraction-back xs l b fits few sided ys d is room
+    decided false false d e = connection-back xs l b fits few sided ys d e room

@@ -17,8 +17,12 @@ fn link_size(links: &[u32], k: usize) -> usize
     requires { ⌜ k < length (linksOf (now links)) ⌝ }
     ensures { λ r. ⌜ r ≡ length (encodeLink (getD (linksOf (now (links .entry))) k noLink)) ⌝ }
 {
-    if links::buffer(links, k) {
+    let kind = links::kind(links, k);
+    if kind == 3 {
         return 16;
+    }
+    if kind == 4 {
+        return 24;
     }
     20
 }

@@ -5,7 +5,7 @@ use mathlib.Core.Bool.{Bool, true, false}
 use mathlib.Core.List.{List}
 use native.Mathlib.Omega.{arith}
 use lib.ListN.{length, getD, take, drop}
-use Rattle.specification.specs.Table.{Table, portCount, linkCount, link, IsPort}
+use Rattle.specification.specs.Table.{Table, portCount, linkCount, link, isBuffer, IsPort}
 use Rattle.records.specs.WrittenLaws.{written-within}
 use Rattle.order.specs.Order.{ordered, Sortable}
 use Rattle.order.specs.OrderLaws.{ordered-next, ordered-part, few-ordered, few-keyed, few-most, most-keyed}
@@ -87,7 +87,7 @@ module _ {t : Table} {labels : List ℕ} (formed : WellFormed t) (components : C
     below = λ k h.
         let low : k < linkCount t = omega (arith, owners-length t labels (linkCount t)) in
         rw (owners-at t labels (linkCount t) k low)
-        (owner-below (link t k .buffer) (label-below (record { below = formed .links k low .from })));
+        (owner-below (isBuffer (link t k)) (label-below (record { below = formed .links k low .from })));
   }
     where
       owner-below : {none label : ℕ} (b : Bool) → label < none → ownerOf none label b < none + 1

@@ -129,7 +129,7 @@ module _ {g h : Graph} {f : ℕ → ℕ} (n : Numbered g h f) where
       least = λ T m p i. s .least T (old-meets m) p (n .port-back p i);
     }
 
-    numbered-possible : Possible g a b → Possible h a b
+    pub numbered-possible : Possible g a b → Possible h a b
     numbered-possible k = record {
       above-zero = k .above-zero;
       over = k .over;

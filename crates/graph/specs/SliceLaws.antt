@@ -6,14 +6,14 @@ use mathlib.Core.Logic.{⊎-elim}
 use mathlib.Core.Bool.{Bool, true, false}
 use mathlib.Core.List.{List, []}
 use native.Mathlib.Omega.{arith}
-use native.Mathlib.Nat.{mul-le-mul, mul-pos, pos-of-ne-zero}
+use native.Mathlib.Nat.{mul-le-mul, mul-pos, pos-of-ne-zero, div-mul-le-self, le-of-mul-le-mul-right}
 use lib.ListN.{length, getD, length-take}
 use lib.Seq.{getD-take}
 use Rattle.numbers.specs.Lists.{_∈_}
 use Rattle.numbers.specs.ListLaws.{lt-or-le, position}
 use Rattle.rounds.specs.Walks.{Among}
 use Rattle.table.specs.WellFormed.{PortFits, LinkFits}
-use Rattle.specification.specs.Table.{Table, portCount, linkCount, port, link, IsPort, IsLink, from}
+use Rattle.specification.specs.Table.{Table, portCount, linkCount, port, link, isBuffer, IsPort, IsLink, from}
 use Rattle.specification.specs.Ratios.{Component as InComponent, stay, mostWeight, IsComponent}
 use Rattle.demands.specs.ConstraintLaws.{names-component}
 use Rattle.ways.specs.WayLaws.{linked, joined-component, component-unique}
@@ -35,9 +35,13 @@ weight-small {t} {weights} h p = ⊎-elim
     (λ (l : portCount t ≤ p). omega (arith, h .rest p l))
     (lt-or-le p (portCount t))
 
--- a part of a link or a port times a weight
+-- a part of a port times a weight
 weighed-most : {x w : ℕ} → x ≤ 1000 → w ≤ mostWeight → x * w ≤ mostAmount
 weighed-most h k = omega (arith, mul-le-mul h k)
+
+-- δ times a weight
+events-most : {x w o : ℕ} → 0 < o → x ≤ 1000 * o → w ≤ mostWeight → x * w / o ≤ mostAmount
+events-most {x} {w} {o} some h k = le-of-mul-le-mul-right {k = o} (omega (arith, div-mul-le-self (x * w) o, mul-le-mul h k)) some
 
 -- a factor of a product that is above zero, or zero
 factor-above-zero : (x y : ℕ) → 0 < x * y → 0 < x
@@ -106,7 +110,7 @@ module _ {t : Table} {labels weights : List ℕ} (l : Labelled t labels weights)
           let i = rw (s .numbers-are) at m in
           let below : k < linkCount t = omega (arith, keyed-below (linkOwners t labels) c _ i, owners-length t labels (linkCount t)) in
           let a-link : IsLink t k = record { below = below } in
-          let (no-buffer, label) = owned (link t k .buffer) (portCount t) (getD labels (from t k) 0) c low
+          let (no-buffer, label) = owned (isBuffer (link t k)) (portCount t) (getD labels (from t k) 0) c low
           (sym (owners-at t labels (linkCount t) k below) ∙ keyed-key (linkOwners t labels) c _ i) in
           record {
             connection = record { a-link = a-link; events = no-buffer };
@@ -146,6 +150,8 @@ module _ {t : Table} {labels weights : List ℕ} (l : Labelled t labels weights)
       slices-readable = record {
         of-links = record { below = λ i h. a-link i h .below };
         senders = λ i h. omega (arith, from-port (a-link i h) .below, l .well-formed .few-ports);
+        over-least = λ i h. l .well-formed .links (getD numbers i 0) (a-link i h .below) .over-least;
+        over-most = λ i h. l .well-formed .links (getD numbers i 0) (a-link i h .below) .over-most;
       }
         where
           a-link : (i : ℕ) → i < length numbers → IsLink t (getD numbers i 0)
@@ -192,9 +198,9 @@ module _ {t : Table} {labels weights : List ℕ} (l : Labelled t labels weights)
             ticks-forward = λ i m. omega (arith, slices-numbered .ticks-forward i m, fits i m .ticks-forward);
             ticks-back = λ i m. omega (arith, slices-numbered .ticks-back i m, fits i m .ticks-back);
             events-forward = λ i m.
-                rw (slices-numbered .events-forward i m) (weighed-most (fits i m .events-forward) (small (from t (getD numbers i 0))));
+                rw (slices-numbered .events-forward i m) (events-most (fits i m .over-least) (fits i m .events-forward) (small (from t (getD numbers i 0))));
             events-back = λ i m.
-                rw (slices-numbered .events-back i m) (weighed-most (fits i m .events-back) (small (from t (getD numbers i 0))));
+                rw (slices-numbered .events-back i m) (events-most (fits i m .over-least) (fits i m .events-back) (small (from t (getD numbers i 0))));
           }
 
       port-fits : (p : ℕ) → p ∈ members → PortFits (port t p)

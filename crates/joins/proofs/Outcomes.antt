@@ -43,7 +43,7 @@ module _ {first second added ports links : List ℕ} {i : Inputs} (read : Inputs
     ps = take (2 * i .«port_count») ports
 
     abbrev ls : List ℕ
-    ls = take (9 * i .«link_count») links
+    ls = take (10 * i .«link_count») links
 
     table-is : tableOf ps ls ≡ joinedTable first second added
     table-is = read-joined read z

@@ -23,5 +23,5 @@ module _ {first second added ports links : List ℕ} {i : Inputs} (read : Inputs
   }
 
   -- where there is none, the slices hold the joined table
-  pub read-joined : i .number ≡ 0 → tableOf (take (2 * i .«port_count») ports) (take (9 * i .«link_count») links) ≡ joinedTable first second added
+  pub read-joined : i .number ≡ 0 → tableOf (take (2 * i .«port_count») ports) (take (10 * i .«link_count») links) ≡ joinedTable first second added
   read-joined z = front-table (read .joined z)

@@ -34,7 +34,7 @@ pub record Held (t : Table) (left : ℕ) (ports links : List ℕ) (p m : ℕ) : 
   pub few-ports : p ≤ mostPorts
   pub few-links : m ≤ mostLinks
   pub port-room : 2 * min mostPorts (p + left / 8) ≤ length ports
-  pub link-room : 9 * min mostLinks (m + left / 16) ≤ length links
+  pub link-room : 10 * min mostLinks (m + left / 16) ≤ length links
   pub front : Front t ports links p m
 
 -- both tables: the first fault, which is that of every join of them, and where there is none, the tables at the front of the slices, with the room
@@ -46,7 +46,7 @@ pub record TablesRead (first second ports links ports′ links′ : List ℕ) (r
   pub held : r .number ≡ 0 → (left : ℕ) → Room (length first + length second + left) start (length ports) (length links)
       → Held (bothTables first second) left ports′ links′ (r .«port_count») (r .«link_count»)
   pub port-room : 2 * r .«port_count» ≤ length ports′
-  pub link-room : 9 * r .«link_count» ≤ length links′
+  pub link-room : 10 * r .«link_count» ≤ length links′
 
 -- all inputs: the first fault, and where there is none, the joined table at the front of the slices
 pub record InputsRead (first second added ports links : List ℕ) (r : Inputs) : Type 0 where
@@ -54,5 +54,5 @@ pub record InputsRead (first second added ports links : List ℕ) (r : Inputs) :
   pub place : r .place ≡ joinOf first second added .place
   pub input : r .input ≡ joinOf first second added .input
   pub port-room : 2 * r .«port_count» ≤ length ports
-  pub link-room : 9 * r .«link_count» ≤ length links
+  pub link-room : 10 * r .«link_count» ≤ length links
   pub joined : r .number ≡ 0 → Front (joinedTable first second added) ports links (r .«port_count») (r .«link_count»)

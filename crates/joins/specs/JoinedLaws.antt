@@ -17,7 +17,7 @@ use Rattle.specification.specs.declared.Link.{Link}
 use Rattle.specification.specs.declared.Before.{Before}
 
 pub between-sided : {l : Link} (from to : ℕ) → OneSided l → OneSided (between from to l)
-between-sided from to o = record { ticks = o .ticks; events = o .events; no-events = o .no-events }
+between-sided from to o = record { ticks = o .ticks; events = o .events; no-events = o .no-events; whole-events = o .whole-events }
 
 -- what was read behind a table, with the ends moved by the ports that it could not name
 behind-writable : (t u : Table) (b : Before) (by : ℕ) → b .ports ≡ portCount t → b .links ≡ linkCount t → by + b .named ≡ portCount t

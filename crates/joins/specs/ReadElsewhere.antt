@@ -9,7 +9,7 @@ use lib.Dec.{eqb}
 use borrow.Author.Tests.{lt-leb, le-leb}
 use Rattle.specification.specs.Bytes.{numberAt}
 use Rattle.specification.specs.Table.{mostPorts, mostLinks}
-use Rattle.specification.specs.Reading.{portAt, linkAt, connectionAt, bufferAt, kindAt, recordAt, Reading, withPort, withLink, after, readFrom, readOn}
+use Rattle.specification.specs.Reading.{portAt, linkAt, connectionAt, bufferAt, fractionAt, kindAt, recordAt, Reading, withPort, withLink, after, readFrom, readOn}
 use Rattle.table.specs.RecordLaws.{Accepted, accepted}
 use Rattle.specification.specs.declared.Before.{Before}
 use Rattle.specification.specs.declared.Read.{Read}
@@ -25,7 +25,7 @@ module _ (s : List ℕ) (at : ℕ) (b b′ : Before) where
 
   link-elsewhere : eqb (numberAt s (at + 2) 2) 1 ≡ false → b .links < mostLinks → b′ .links < mostLinks → b .named ≡ b′ .named
       → recordAt s at b′ ≡ recordAt s at b
-  unfolding recordAt kindAt connectionAt bufferAt linkAt
+  unfolding recordAt kindAt connectionAt bufferAt fractionAt linkAt
   link-elsewhere kind room room′ named = rw (kind, lt-leb mostLinks (b .links) room, lt-leb mostLinks (b′ .links) room′, named)
 
   end-elsewhere : length s ≤ at → recordAt s at b′ ≡ recordAt s at b

@@ -25,6 +25,9 @@ divides-refl a = record { quotient = 1; is = omega arith }
 pub divides-zero : (a : ℕ) → Divides a 0
 divides-zero a = record { quotient = 0; is = omega arith }
 
+pub divides-all-one : (a : ℕ) → Divides 1 a
+divides-all-one a = record { quotient = a; is = omega arith }
+
 pub divides-trans : {a b c : ℕ} → Divides a b → Divides b c → Divides a c
 divides-trans h k = record {
   quotient = h .quotient * k .quotient;

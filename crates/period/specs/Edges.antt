@@ -1,12 +1,12 @@
 -- What a search reads of a table: the rate limits of its ports, and the edges of some of its connections, as lists of numbers.
-use Prim.Native.Nat.{ℕ, zero, suc, _+_, _*_, _≤_, _<_}
+use Prim.Native.Nat.{ℕ, zero, suc, _+_, _*_, _/_, _≤_, _<_}
 use mathlib.Core.Path.{_≡_}
 use mathlib.Core.List.{List, [], _∷_, _++_}
 use lib.ListN.{length, getD}
 use Rattle.numbers.specs.Lists.{_∈_}
 use Rattle.specification.specs.declared.Port.{Port}
 use Rattle.specification.specs.declared.Link.{Link}
-use Rattle.specification.specs.Table.{noPort, noLink}
+use Rattle.specification.specs.Table.{noPort, noLink, mostOver}
 use Rattle.period.specs.Component.{mostAmount}
 use Rattle.period.specs.declared.edge.Edge.{Edge}
 
@@ -27,7 +27,8 @@ limitsOf ports weights = limitsTo ports weights 64
 abbrev pub edgeOf : List Link → (weights : List ℕ) → ℕ → List ℕ
 edgeOf links weights k =
     let l = getD links k noLink in
-    l .from ∷ l .to ∷ l .ticks .0 ∷ l .ticks .1 ∷ l .events .0 * getD weights (l .from) 0 ∷ l .events .1 * getD weights (l .from) 0 ∷ []
+    let w = getD weights (l .from) 0 in
+    l .from ∷ l .to ∷ l .ticks .0 ∷ l .ticks .1 ∷ l .events .0 * w / l .over ∷ l .events .1 * w / l .over ∷ []
 
 -- six numbers for each connection that is named
 unfoldable pub edgesOf : List Link → (weights numbers : List ℕ) → List ℕ
@@ -42,16 +43,26 @@ pub record PortNumbers (ports : List Port) (members : List ℕ) : Type 0 where
 pub record LinkNumbers (links : List Link) (numbers : List ℕ) : Type 0 where
   pub below : (i : ℕ) → i < length numbers → getD numbers i 0 < length links
 
--- the numbers are of links that leave ports below 64
+-- the numbers are of links that leave ports below 64 and have a denominator
 pub record Readable (links : List Link) (numbers : List ℕ) : Type 0 where
   pub of-links : LinkNumbers links numbers
   pub senders : (i : ℕ) → i < length numbers → getD links (getD numbers i 0) noLink .from < 64
+  pub over-least : (i : ℕ) → i < length numbers → 0 < getD links (getD numbers i 0) noLink .over
+  pub over-most : (i : ℕ) → i < length numbers → getD links (getD numbers i 0) noLink .over ≤ mostOver
+
+-- an amount times a weight that can be divided
+pub record Weighable (amount weight over : ℕ) : Type 0 where
+  pub over-least : 0 < over
+  pub over-most : over ≤ mostOver
+  pub most : amount * weight / over ≤ mostAmount
 
 -- what reading the i-th edge asks
 pub record EdgeReadable (links : List Link) (weights numbers : List ℕ) (i : ℕ) : Type 0 where
   pub within : i < length numbers
   pub below : getD numbers i 0 < length links
   pub sender : getD links (getD numbers i 0) noLink .from < 64
+  pub over-least : 0 < getD links (getD numbers i 0) noLink .over
+  pub over-most : getD links (getD numbers i 0) noLink .over ≤ mostOver
   pub events-forward : getD (edgesOf links weights numbers) (6 * i + 4) 0 ≤ mostAmount
   pub events-back : getD (edgesOf links weights numbers) (6 * i + 5) 0 ≤ mostAmount
 

@@ -47,6 +47,8 @@ edge-readable {links} {weights} {numbers} {i} r s l =
       within = l;
       below = r .of-links .below i l;
       sender = r .senders i l;
+      over-least = r .over-least i l;
+      over-most = r .over-most i l;
       events-forward = s .events-forward i (omega arith);
       events-back = s .events-back i (omega arith);
     }

@@ -25,7 +25,7 @@ within-last a b c most first second = ⊎-elim
     (lt-or-le most (a + b + c))
 
 -- slices that have room for so many bytes have room for the inputs
-pub few-bytes : {test : Bool} {ports links : ℕ} (a b c most : ℕ) → test ≡ leb (a + b + c) most → test ≡ true → most / 8 * 2 ≤ ports → most / 16 * 9 ≤ links
+pub few-bytes : {test : Bool} {ports links : ℕ} (a b c most : ℕ) → test ≡ leb (a + b + c) most → test ≡ true → most / 8 * 2 ≤ ports → most / 16 * 10 ≤ links
     → Room (a + b + c) start ports links
 few-bytes a b c most e t enough-ports enough-links =
     let few = leb-true (a + b + c) most (sym e ∙ t) in

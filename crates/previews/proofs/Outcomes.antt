@@ -45,11 +45,11 @@ module _ {first second added ports links : List ℕ} {i : Inputs} (read : Inputs
   }
 
   module _ (z : i .number ≡ 0) where
-    pub read-writable : Writable start (tableOf (take (2 * i .«port_count») ports) (take (9 * i .«link_count») links))
+    pub read-writable : Writable start (tableOf (take (2 * i .«port_count») ports) (take (10 * i .«link_count») links))
     read-writable = rw (read-joined read z) (joined-writable first second added)
 
     pub preview-analysed : {before after : List ℕ} {r : Outcome}
-        → Analysed (encodeTable (tableOf (take (2 * i .«port_count») ports) (take (9 * i .«link_count») links))) before after r
+        → Analysed (encodeTable (tableOf (take (2 * i .«port_count») ports) (take (10 * i .«link_count») links))) before after r
         → Previewed first second added before after (record { number = r .number; place = r .place; input = 0; written = r .written })
     preview-analysed a = record {
       refused = λ f. absurd (f (sym (read .number) ∙ z));

@@ -1,14 +1,12 @@
 -- From the promise of the preview follows what a caller is told.
 use Prim.Native.Nat.{ℕ, _≤_}
-use mathlib.Core.Path.{_≡_, refl, sym, ap, _∙_}
+use mathlib.Core.Path.{_≡_, sym, ap, _∙_}
 use mathlib.Core.Logic.{_≢_}
-use mathlib.Core.Bool.{Bool, true, false, cond}
 use mathlib.Core.List.{List}
 use native.Mathlib.Decide.{ℕ-discrete}
 use native.Mathlib.Nat.{pos-of-ne-zero}
 use native.Mathlib.Omega.{arith}
 use lib.ListN.{length}
-use lib.Dec.{ltb}
 use Rattle.specification.specs.Table.{Table, portCount}
 use Rattle.specification.specs.Reading.{start, readTable}
 use Rattle.specification.specs.Encoding.{encodeTable}
@@ -16,6 +14,7 @@ use Rattle.specification.specs.Answers.{Answer, refused, disagreeing, overweigh
 use Rattle.specification.specs.Analysed.{Analysed}
 use Rattle.specification.specs.Joining.{joinedTable, Join, joinOf, joinInto, JoinReturned, NoFault}
 use Rattle.specification.specs.Previewing.{analysisOf, Previewed, PreviewNumbers, faulty, short, no-port, right, PreviewDemanded}
+use Rattle.table.specs.FaultLaws.{answer-no-place}
 use Rattle.records.specs.WrittenLaws.{written-front, written-rest, written-within, written-nothing}
 use Rattle.encoding.specs.ReadBack.{Writable, read-back, table-read-back, no-fault-read, no-port-read, some-port-read}
 use Rattle.joins.specs.JoinedLaws.{joined-writable}
@@ -43,12 +42,7 @@ module _ (first second added : List ℕ) where
 
   -- ---- the analysis of the joined bytes
   no-place : (room : ℕ) → answerPlace bytes room ≡ 0
-  unfolding answerPlace
-  no-place room = rw (no-fault-read (joined-writable first second added)) (by (ltb room leastRoom))
-    where
-      by : (x : Bool) → _≡_ {A = ℕ} (cond x 0 0) 0
-      by true = refl
-      by false = refl
+  no-place room = answer-no-place bytes room (rw (no-fault-read (joined-writable first second added)))
 
   module _ (none : NoFault first second added) (room : ℕ) where
     w : Writable start t

@@ -23,12 +23,12 @@ pub fn preview(first: &[u8], second: &[u8], added: &[u8], answer: &mut [u8]) -> 
     // A port has 8 bytes, a link at least 16.
     if bytes_within(first, second, added, 128) {
         let mut ports = [0u32; 32];
-        let mut links = [0u32; 72];
+        let mut links = [0u32; 80];
         return preview_in(first, second, added, &mut ports, &mut links, answer);
     }
     let mut ports = [0u32; 128];
     if bytes_within(first, second, added, 512) {
-        let mut links = [0u32; 288];
+        let mut links = [0u32; 320];
         return preview_in(first, second, added, &mut ports, &mut links, answer);
     }
     let mut links = links::room();

@@ -1,11 +1,11 @@
 -- Numbers are read back from the bytes that they were written as.
-use Prim.Native.Nat.{ℕ, zero, suc, _+_, _/_, _%_, _^_, _<_}
+use Prim.Native.Nat.{ℕ, zero, suc, _+_, _/_, _%_, _^_, _≤_, _<_}
 use mathlib.Core.Path.{_≡_, refl}
 use mathlib.Core.List.{List, [], _∷_, _++_}
 use native.Mathlib.Nat.{add-assoc, pow-suc}
 use native.Mathlib.Omega.{arith}
-use lib.ListN.{length}
-use lib.Seq.{getD-append-add}
+use lib.ListN.{length, take}
+use lib.Seq.{getD-append-add, getD-take}
 use Rattle.specification.specs.Bytes.{encode, numberAt, bytes}
 
 -- what stands in front of the bytes only moves the place
@@ -13,6 +13,12 @@ pub number-behind : (pre s : List ℕ) (at n : ℕ) → numberAt (pre ++ s) (len
 unfolding numberAt
 number-behind pre s at zero = refl
 number-behind pre s at (suc n) = rw (getD-append-add, add-assoc, number-behind pre s (at + 1) n)
+
+-- a number that lies in the first m bytes
+pub number-front : (s : List ℕ) (m at n : ℕ) → at + n ≤ m → numberAt (take m s) at n ≡ numberAt s at n
+unfolding numberAt
+number-front s m at zero h = refl
+number-front s m at (suc n) h = rw (getD-take m s at 0 (omega arith), number-front s m (at + 1) n (omega arith))
 
 pub number-bytes : (n : ℕ) {v : ℕ} (post : List ℕ) → v < 256 ^ n → numberAt (bytes n v ++ post) 0 n ≡ v
 unfolding numberAt bytes

@@ -16,7 +16,7 @@ use Rattle.report.specs.AnswerText.{stepsText, connectionsText, portsTex
 -- ---- A
 -- of the table only how many ports there are, and which links are buffers
 abbrev buffer : Link
-buffer = record { from = 1; to = 0; num = 1; den = 1; ticks = (4, 0); events = (0, 0); buffer = true }
+buffer = record { from = 1; to = 0; num = 1; den = 1; ticks = (4, 0); events = (0, 0); over = 1; kind = 3 }
 
 abbrev tableA : Table
 tableA = record { ports = noPort ∷ noPort ∷ []; links = noLink ∷ noLink ∷ buffer ∷ [] }

@@ -2,7 +2,7 @@
 use Prim.Native.Nat.{ℕ, zero, suc}
 use mathlib.Core.Bool.{cond}
 use mathlib.Core.List.{List, [], _∷_, _++_}
-use Rattle.specification.specs.Table.{Table, portCount, linkCount, link}
+use Rattle.specification.specs.Table.{Table, portCount, linkCount, link, isBuffer}
 use Rattle.specification.specs.Ratios.{Step}
 use Rattle.specification.specs.Answers.{Timing, Floor, rate, cycle, zeroFloor, Answer, refused, disagreeing, overweight, blocked, noLeast, consistent, number}
 use Rattle.text.specs.Lines.{loopWord, floorCycleWord, blockWord, answerLine, portLine, bufferLine, stepText, connectionText, itemsLine, floorPortLine, zeroFloorLine}
@@ -30,7 +30,7 @@ portsText r (suc n) = portsText r n ++ portLine n (r .component n) (r .weight n)
 -- a line for each buffer among the first n links, in order
 unfoldable pub buffersText : Table → Timing → ℕ → List ℕ
 buffersText t r zero = []
-buffersText t r (suc n) = buffersText t r n ++ cond (link t n .buffer) (bufferLine n (r .size n)) []
+buffersText t r (suc n) = buffersText t r n ++ cond (isBuffer (link t n)) (bufferLine n (r .size n)) []
 
 -- the lines behind the first
 abbrev pub linesOf : Table → Answer → List ℕ

@@ -13,7 +13,7 @@ use Rattle.specification.specs.Periods.{Cycle, graphIn}
 use Rattle.rounds.specs.Walks.{edges-of}
 use Rattle.table.specs.WellFormed.{WellFormed}
 use Rattle.specification.specs.Reading.{readTable}
-use Rattle.specification.specs.Table.{Table, portCount, linkCount, link, IsPort}
+use Rattle.specification.specs.Table.{Table, portCount, linkCount, link, isBuffer, IsPort}
 use Rattle.specification.specs.Ratios.{Step, Way, stay, walk}
 use Rattle.specification.specs.Answers.{
   Timing,
@@ -85,17 +85,17 @@ prints-buffer-if true {first = first} fields = record { many = 1; prints = print
 prints-buffer-if false fields = record { many = 0; prints = prints-none }
 
 prints-buffers : (t : Table) (r : Timing) (first n : ℕ)
-    → ((k : ℕ) → k < n → link t k .buffer ≡ true → BufferFields k (r .size k))
+    → ((k : ℕ) → k < n → isBuffer (link t k) ≡ true → BufferFields k (r .size k))
     → PrintsAs (bufferRecords t r n) first (buffersText t r n)
 unfolding bufferRecords buffersText
 prints-buffers t r first zero fields = record { many = 0; prints = prints-none }
 prints-buffers t r first (suc n) fields =
     let before = prints-buffers t r first n (λ k h. fields k (omega arith)) in
-    let last = prints-buffer-if (link t n .buffer) {first = first + before .many} (fields n (omega arith)) in
+    let last = prints-buffer-if (isBuffer (link t n)) {first = first + before .many} (fields n (omega arith)) in
     record { many = before .many + last .many; prints = before .prints ⨾ last .prints }
 
 buffer-fields : {t : Table} {r : Timing} → WellFormed t → FieldsFit t r
-    → (k : ℕ) → k < linkCount t → link t k .buffer ≡ true → BufferFields k (r .size k)
+    → (k : ℕ) → k < linkCount t → isBuffer (link t k) ≡ true → BufferFields k (r .size k)
 buffer-fields formed fits k h e = record {
   number-fits = omega (arith, formed .few-links);
   size-fits = fits .size k (record { a-link = record { below = h }; no-events = e });

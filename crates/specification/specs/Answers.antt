@@ -6,7 +6,7 @@ use mathlib.Core.Bool.{cond}
 use mathlib.Core.List.{List, [], _∷_, _++_}
 use lib.Dec.{ltb}
 use Rattle.numbers.specs.Rationals.{Rational, share}
-use Rattle.specification.specs.Table.{Table, portCount, linkCount, mostPorts, mostLinks, link, IsPort, IsBuffer, from, to, ε⁺, ε⁻}
+use Rattle.specification.specs.Table.{Table, portCount, linkCount, mostPorts, mostLinks, link, isBuffer, IsPort, IsBuffer, from, to, ε⁺, ε⁻}
 use Rattle.specification.specs.Reading.{readTable}
 use Rattle.specification.specs.Ratios.{Step, Component, IsComponent, DisagreeingLoop, SmallWeights, Overweight}
 use Rattle.specification.specs.Periods.{Graph, LeastStarts, RateLimit, CycleLimit, Blocks, Period, ZeroFloor, BlocksAboveZero, HasPeriod, NoLeast, graphIn}
@@ -76,7 +76,7 @@ portRecords r (suc n) = portRecords r n ++ portAnswer (r .component n) (r .weigh
 -- one for each buffer among the first n links, in order
 unfoldable pub bufferRecords : Table → Timing → ℕ → List ℕ
 bufferRecords t r zero = []
-bufferRecords t r (suc n) = bufferRecords t r n ++ cond (link t n .buffer) (bufferAnswer n (r .size n)) []
+bufferRecords t r (suc n) = bufferRecords t r n ++ cond (isBuffer (link t n)) (bufferAnswer n (r .size n)) []
 
 abbrev pub records : Table → Answer → List ℕ
 records t (refused n) = []

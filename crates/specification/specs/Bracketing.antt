@@ -37,7 +37,8 @@ lowered by l = record {
   den = l .den;
   ticks = l .ticks;
   events = l .events;
-  buffer = l .buffer;
+  over = l .over;
+  kind = l .kind;
 }
 
 -- ---- three tables and one lot of added records, numbered as in the whole

@@ -1,16 +1,33 @@
 -- Chains of waits, and demand 3.
 use Prim.Native.Nat.{ℕ, suc, _+_, _*_, _/_, _<_}
 use mathlib.Core.Path.{_≡_}
+use Rattle.numbers.specs.Divisors.{Divides}
 use Rattle.numbers.specs.Rationals.{Rational, _≼_, _≺_, _⊕_, _·_, whole, share}
-use Rattle.specification.specs.Table.{Table, port, IsPort, IsLink, IsConnection, IsBuffer, from, to, num, den, δ⁺, δ⁻}
+use Rattle.specification.specs.Table.{Table, port, IsPort, IsLink, IsConnection, IsBuffer, from, to, num, den, δ⁺, δ⁻, δ°}
 use Rattle.specification.specs.Ratios.{Component}
-use Rattle.specification.specs.Periods.{PortIn}
+use Rattle.specification.specs.Periods.{PortIn, ConnectionIn}
 use Rattle.specification.specs.Answers.{Timing, periodOf, startOf}
-use Rattle.specification.specs.Solutions.{ε}
+use Rattle.specification.specs.Solutions.{ε, δ}
 
 -- every ratio of component c is 1, its buffers' too
 pub record RatiosOne (t : Table) (c : ℕ) : Type 0 where
   pub one : (k : ℕ) → IsLink t k → Component t (from t k) c → num t k ≡ den t k
+
+-- every δ of component c is whole, as 4/2 is
+pub record EventsWhole (t : Table) (c : ℕ) : Type 0 where
+  pub forward : (k : ℕ) → ConnectionIn t c k → Divides (δ° t k) (δ⁺ t k)
+  pub back : (k : ℕ) → ConnectionIn t c k → Divides (δ° t k) (δ⁻ t k)
+
+-- n is x rounded down; a number below zero is not rounded to 0: it has no such n
+pub record RoundedDown (x : Rational) (n : ℕ) : Type 0 where
+  pub low : whole n ≼ x
+  pub high : x ≺ whole (suc n)
+
+-- event k of the receiver of connection n waits for event m of its sender: k divided by the ratio, plus δ, rounded down as one sum
+pub record WaitsFor (t : Table) (n k m : ℕ) : Type 0 where
+  pub ratio-some : 0 < num t n
+  pub over-some : 0 < δ° t n
+  pub rounded : RoundedDown (share (k * den t n) (num t n) ratio-some ⊕ δ t n over-some) m
 
 module _ (t : Table) (size : ℕ → ℕ) where
   -- a chain that leads to event k of port p, and its time
@@ -22,11 +39,11 @@ module _ (t : Table) (size : ℕ → ℕ) where
         → Chain p (suc k) (time ⊕ share (port t p .den) (port t p .num) some)
     -- the same at a port without a rate, which adds 0
     free-spacing : {p k : ℕ} {time : Rational} → Chain p k time → port t p .num ≡ 0 → Chain p (suc k) time
-    -- along connection n to event k of its receiver, from the sender's event k divided by the ratio, rounded down, plus δ
+    -- along connection n to event k of its receiver, from the sender's event that it waits for
     connection : {m : ℕ} {time : Rational} (n k : ℕ) → IsConnection t n → Chain (from t n) m time
-        → m + δ⁻ t n ≡ k * den t n / num t n + δ⁺ t n
+        → WaitsFor t n k m
         → Chain (to t n) k (time ⊕ ε t n)
-    -- along buffer n in the same way, minus the returned size
+    -- along buffer n to event k of its receiver, from the sender's event k divided by the ratio, rounded down, minus the returned size
     buffer : {m : ℕ} {time : Rational} (n k : ℕ) → IsBuffer t n → Chain (from t n) m time
         → m + size n ≡ k * den t n / num t n
         → Chain (to t n) k (time ⊕ ε t n)
@@ -48,7 +65,8 @@ module _ (t : Table) (size : ℕ → ℕ) where
   pub record Tight (c : ℕ) (period : Rational) : Type 0 where
     pub smaller : (x : Rational) → x ≺ period → (start : ℕ → Rational) → Late c x start
 
--- every chain is within the start and k periods; where every ratio of the component is 1, no smaller period has this
+-- every chain is within the start and k periods; where every ratio of the component is 1 and every δ of it whole, no smaller period has this
 pub record Demand3 (t : Table) (r : Timing) : Type 0 where
   pub bounded : Bounded t (r .size) (periodOf r) (startOf r)
-  pub tight : (p : ℕ) → IsPort t p → RatiosOne t (r .component p) → Tight t (r .size) (r .component p) (periodOf r p)
+  pub tight : (p : ℕ) → IsPort t p → RatiosOne t (r .component p) → EventsWhole t (r .component p)
+      → Tight t (r .size) (r .component p) (periodOf r p)

@@ -24,7 +24,8 @@ moved by l = record {
   den = l .den;
   ticks = l .ticks;
   events = l .events;
-  buffer = l .buffer;
+  over = l .over;
+  kind = l .kind;
 }
 
 -- a table with the ports and links of another behind its own, the ends of these so many numbers higher

@@ -3,6 +3,7 @@ pub mod Bytes
 pub mod Table
 pub mod Reading
 pub mod Ratios
+pub mod Meaning
 pub mod Periods
 pub mod Answers
 pub mod Solutions

@@ -1,12 +1,12 @@
 -- The constraint graph of a component: its connections, at the weights of their senders; its periods, limits and starts.
-use Prim.Native.Nat.{ℕ, _+_, _*_, _≤_, _<_}
+use Prim.Native.Nat.{ℕ, _+_, _*_, _/_, _≤_, _<_}
 use mathlib.Core.Path.{_≡_}
 use mathlib.Core.Logic.{_⊎_}
 use mathlib.Core.List.{List, [], _∷_, map}
 use Rattle.numbers.specs.Divisors.{Coprime}
 use Rattle.numbers.specs.Lists.{sum, Distinct}
-use Rattle.specification.specs.Table.{Table, port, IsPort, IsConnection, from, to, ε⁺, ε⁻, δ⁺, δ⁻}
-use Rattle.specification.specs.Ratios.{Component}
+use Rattle.specification.specs.Table.{Table, port, IsPort, IsConnection, from, to, ε⁺, ε⁻, δ°}
+use Rattle.specification.specs.Ratios.{Component, weighed⁺, weighed⁻}
 
 -- ports, and edges that cost E + D · a/b
 pub record Graph : Type 1 where
@@ -134,7 +134,7 @@ module _ (t : Table) where
     pub component : Component t (from t k) c
 
   -- the rate limit of a port is 1 divided by rate times weight, and 0/0 for the rate 0/0; E of an edge is ε, D is δ times the sender's
-  -- weight
+  -- weight, a whole number at the weights
   abbrev pub graphIn : (ℕ → ℕ) → ℕ → Graph
   graphIn w c = record {
     IsPort = PortIn c;
@@ -145,6 +145,6 @@ module _ (t : Table) where
     to = to t;
     E⁺ = ε⁺ t;
     E⁻ = ε⁻ t;
-    D⁺ = λ k. δ⁺ t k * w (from t k);
-    D⁻ = λ k. δ⁻ t k * w (from t k);
+    D⁺ = λ k. weighed⁺ t w k / δ° t k;
+    D⁻ = λ k. weighed⁻ t w k / δ° t k;
   }

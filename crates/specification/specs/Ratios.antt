@@ -3,8 +3,9 @@ use Prim.Native.Nat.{ℕ, _*_, _≤_, _<_}
 use mathlib.Core.Bool.{Bool, cond}
 use mathlib.Core.Path.{_≡_}
 use mathlib.Core.List.{List, [], _∷_, map}
+use Rattle.numbers.specs.Divisors.{Divides}
 use Rattle.numbers.specs.Lists.{Distinct}
-use Rattle.specification.specs.Table.{Table, IsPort, IsLink, from, to, num, den}
+use Rattle.specification.specs.Table.{Table, IsPort, IsLink, from, to, num, den, δ⁺, δ⁻, δ°}
 
 -- the most of a weight
 abbrev pub mostWeight : ℕ
@@ -64,19 +65,41 @@ module _ (t : Table) where
     pub positive : (p : ℕ) → IsPort t p → 0 < w p
     pub fits : (k : ℕ) → IsLink t k → w (to t k) * num t k ≡ w (from t k) * den t k
 
+  -- document 01's weights: the smallest whole numbers in proportion, whatever δ is
   pub record Weights (w : ℕ → ℕ) : Type 0 where
     pub proportional : Proportional w
     pub smallest : (v : ℕ → ℕ) → Proportional v → (p : ℕ) → IsPort t p → w p ≤ v p
 
+  -- δ of link k times the weight that it leaves, forward and back: each is over δ°
+  abbrev pub weighed⁺ : (ℕ → ℕ) → ℕ → ℕ
+  weighed⁺ w k = δ⁺ t k * w (from t k)
+
+  abbrev pub weighed⁻ : (ℕ → ℕ) → ℕ → ℕ
+  weighed⁻ w k = δ⁻ t k * w (from t k)
+
+  -- it is whole. Of each δ that was read one amount is zero; a buffer has no δ, both its amounts are zero
+  pub record WholeAt (w : ℕ → ℕ) (k : ℕ) : Type 0 where
+    pub forward : Divides (δ° t k) (weighed⁺ w k)
+    pub back : Divides (δ° t k) (weighed⁻ w k)
+
+  pub record AllWhole (w : ℕ → ℕ) : Type 0 where
+    pub each : (k : ℕ) → IsLink t k → WholeAt w k
+
+  -- the weights: the smallest whole numbers in proportion for which every δ times the weight that it leaves is whole (change request F-6)
+  pub record WholeWeights (w : ℕ → ℕ) : Type 0 where
+    pub proportional : Proportional w
+    pub whole : AllWhole w
+    pub smallest : (v : ℕ → ℕ) → Proportional v → AllWhole v → (p : ℕ) → IsPort t p → w p ≤ v p
+
   -- the weights, none above 10,000
   pub record SmallWeights (w : ℕ → ℕ) : Type 0 where
-    pub weights : Weights w
+    pub weights : WholeWeights w
     pub small : (p : ℕ) → IsPort t p → w p ≤ mostWeight
 
   -- number 14: some weight passes 10,000
   pub record Overweight : Type 0 where
     pub w : ℕ → ℕ
-    pub weights : Weights w
+    pub weights : WholeWeights w
     pub at : ℕ
     pub a-port : IsPort t at
     pub passes : mostWeight < w at

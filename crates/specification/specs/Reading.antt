@@ -1,12 +1,12 @@
 -- The table that bytes hold: its records are read from the front, each tried for 2 to 11 in order; the first faulty one decides.
-use Prim.Native.Nat.{ℕ, zero, suc, _+_, _-_, _<_}
+use Prim.Native.Nat.{ℕ, zero, suc, _+_, _*_, _-_, _<_}
 use mathlib.Core.Path.{_≡_}
 use mathlib.Core.Bool.{Bool, true, false, not, _&&_, _||_, cond}
 use mathlib.Core.List.{List, [], _∷_}
 use lib.ListN.{length, take}
 use lib.Dec.{ltb, leb, eqb}
 use Rattle.specification.specs.Bytes.{numberAt}
-use Rattle.specification.specs.Table.{mostPorts, mostLinks, mostPart, mostTicks, mostEvents, Table, portCount, linkCount}
+use Rattle.specification.specs.Table.{mostPorts, mostLinks, mostPart, mostTicks, mostEvents, mostOver, Table, portCount, linkCount}
 use Rattle.specification.specs.declared.Ticks.{Ticks}
 use Rattle.specification.specs.declared.Events.{Events}
 use Rattle.specification.specs.declared.Port.{Port}
@@ -71,24 +71,29 @@ eventsAt s at = (forward (numberAt s at 4), back (numberAt s at 4))
 unfoldable pub amountFaulty : (most forward back : ℕ) → Bool
 amountFaulty most forward back = ltb most forward || ltb most back
 
+-- the denominator of δ is 0 or above 10,000, or δ is outside its range
+unfoldable pub eventsFaulty : Events → (over : ℕ) → Bool
+eventsFaulty events over = eqb over 0 || (ltb mostOver over || amountFaulty (mostEvents * over) (events .0) (events .1))
+
 -- ε or δ is outside its range; a buffer's events are zero
-unfoldable pub delaysFaulty : Ticks → Events → Bool
-delaysFaulty ticks events = amountFaulty mostTicks (ticks .0) (ticks .1) || amountFaulty mostEvents (events .0) (events .1)
+unfoldable pub delaysFaulty : Ticks → Events → (over : ℕ) → Bool
+delaysFaulty ticks events over = amountFaulty mostTicks (ticks .0) (ticks .1) || eventsFaulty events over
 
 -- the fields of a port, from the place of the first
 unfoldable pub portOf : List ℕ → ℕ → Port
 portOf s at = record { num = numberAt s at 2; den = numberAt s (at + 2) 2 }
 
 -- the fields of a connection or buffer, from the place of the first
-unfoldable pub linkOf : List ℕ → ℕ → Ticks → Events → Bool → Link
-linkOf s at ticks events buffer = record {
+unfoldable pub linkOf : List ℕ → ℕ → Ticks → Events → (over kind : ℕ) → Link
+linkOf s at ticks events over kind = record {
   from = numberAt s at 2;
   to = numberAt s (at + 2) 2;
   num = numberAt s (at + 4) 2;
   den = numberAt s (at + 6) 2;
   ticks = ticks;
   events = events;
-  buffer = buffer;
+  over = over;
+  kind = kind;
 }
 
 -- kind 1, port, length 6
@@ -100,29 +105,34 @@ portAt s at n before =
     (refuse at 8 (rateFaulty s (at + 4))
     (PortRecord (portOf s (at + 4)) (at + 8)))))
 
--- kinds 2 and 3 behind the test of their length
-unfoldable pub linkAt : List ℕ → ℕ → Before → Events → Bool → ℕ → Read
-linkAt s at before events buffer next =
+-- kinds 2, 3 and 4 behind the test of their length
+unfoldable pub linkAt : List ℕ → ℕ → Before → Events → (over kind next : ℕ) → Read
+linkAt s at before events over kind next =
     refuse at 7 (leb mostLinks (before .links))
     (refuse at 9 (endsFaulty s (at + 4) (before .named))
     (refuse at 10 (partsFaulty s (at + 8))
-    (refuse at 11 (delaysFaulty (ticksAt s (at + 12)) events)
-    (LinkRecord (linkOf s (at + 4) (ticksAt s (at + 12)) events buffer) next))))
+    (refuse at 11 (delaysFaulty (ticksAt s (at + 12)) events over)
+    (LinkRecord (linkOf s (at + 4) (ticksAt s (at + 12)) events over kind) next))))
 
 -- kind 2, connection, length 18
 unfoldable pub connectionAt : List ℕ → ℕ → ℕ → Before → Read
-connectionAt s at n before = refuse at 4 (not (eqb n 18)) (linkAt s at before (eventsAt s (at + 16)) false (at + 20))
+connectionAt s at n before = refuse at 4 (not (eqb n 18)) (linkAt s at before (eventsAt s (at + 16)) 1 2 (at + 20))
 
 -- kind 3, buffer, length 14
 unfoldable pub bufferAt : List ℕ → ℕ → ℕ → Before → Read
-bufferAt s at n before = refuse at 4 (not (eqb n 14)) (linkAt s at before (0, 0) true (at + 16))
+bufferAt s at n before = refuse at 4 (not (eqb n 14)) (linkAt s at before (0, 0) 1 3 (at + 16))
+
+-- kind 4, connection whose δ is a fraction, length 22: as kind 2, and the denominator of δ behind
+unfoldable pub fractionAt : List ℕ → ℕ → ℕ → Before → Read
+fractionAt s at n before = refuse at 4 (not (eqb n 22)) (linkAt s at before (eventsAt s (at + 16)) (numberAt s (at + 20) 4) 4 (at + 24))
 
 unfoldable pub kindAt : List ℕ → ℕ → ℕ → ℕ → Before → Read
 kindAt s at n kind before =
     cond (eqb kind 1) (portAt s at n before)
     (cond (eqb kind 2) (connectionAt s at n before)
     (cond (eqb kind 3) (bufferAt s at n before)
-    (Refused 3 at)))
+    (cond (eqb kind 4) (fractionAt s at n before)
+    (Refused 3 at))))
 
 -- none left ends the table
 unfoldable pub recordAt : List ℕ → ℕ → Before → Read

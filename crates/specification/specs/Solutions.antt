@@ -1,16 +1,16 @@
 -- Demand 2's other side: rational periods and starts, of any sign, that meet (1) to (3), the least of them, and that there is none.
-use Prim.Native.Nat.{ℕ, _≤_}
-use Rattle.numbers.specs.Rationals.{Rational, _≼_, _≺_, _≈_, _⊕_, _·_, _⊗_, whole, signed}
-use Rattle.specification.specs.Table.{Table, port, IsPort, IsLink, IsConnection, IsBuffer, from, to, num, den, ε⁺, ε⁻, δ⁺, δ⁻}
+use Prim.Native.Nat.{ℕ, _≤_, _<_}
+use Rattle.numbers.specs.Rationals.{Rational, _≼_, _≺_, _≈_, _⊕_, _·_, _⊗_, whole, signed, ratio}
+use Rattle.specification.specs.Table.{Table, port, IsPort, IsLink, IsConnection, IsBuffer, from, to, num, den, ε⁺, ε⁻, δ⁺, δ⁻, δ°}
 use Rattle.specification.specs.Answers.{Timing, periodOf, startOf}
 
 module _ (t : Table) where
-  -- ε in ticks, δ in events
+  -- ε in ticks, δ in events; every δ that was read has a denominator above zero
   abbrev pub ε : ℕ → Rational
   ε k = signed (ε⁺ t k) (ε⁻ t k)
 
-  abbrev pub δ : ℕ → Rational
-  δ k = signed (δ⁺ t k) (δ⁻ t k)
+  abbrev pub δ : (k : ℕ) → 0 < δ° t k → Rational
+  δ k some = ratio (δ⁺ t k) (δ⁻ t k) (δ° t k) some
 
   -- (1) the receiver's period is the sender's divided by the ratio
   pub record Ratios (period : ℕ → Rational) : Type 0 where
@@ -18,7 +18,7 @@ module _ (t : Table) where
 
   -- (2) the receiver's start is no less than the sender's plus ε plus δ times the sender's period
   pub record Starts (period start : ℕ → Rational) : Type 0 where
-    pub holds : (k : ℕ) → IsConnection t k → start (from t k) ⊕ ε k ⊕ δ k ⊗ period (from t k) ≼ start (to t k)
+    pub holds : (k : ℕ) → IsConnection t k → (some : 0 < δ° t k) → start (from t k) ⊕ ε k ⊕ δ k some ⊗ period (from t k) ≼ start (to t k)
 
   -- (3) a port's period is no less than 1 divided by its maximum rate; of a port with the rate 0/0 it asks nothing
   pub record Rates (period : ℕ → Rational) : Type 0 where

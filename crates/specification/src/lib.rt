@@ -13,7 +13,8 @@ pub struct Port {
     pub den: u64,
 }
 
-// A connection, or a buffer, which has no events. Its ratio is num / den.
+// A connection or a buffer. Its ratio is num / den, its number of events `events` divided by `over`. The kind is that of its record: 2 a
+// connection, over 1; 3 a buffer, which has no events, over 1; 4 a connection whose number of events is a fraction.
 pub struct Link {
     pub from: usize,
     pub to: usize,
@@ -21,7 +22,8 @@ pub struct Link {
     pub den: u64,
     pub ticks: Ticks,
     pub events: Events,
-    pub buffer: bool,
+    pub over: u32,
+    pub kind: u32,
 }
 
 // What the delay that a buffer needs comes to, in events of its sender.

@@ -9,6 +9,8 @@ pub const TICKS: u64 = 10000000;
 
 pub const EVENTS: u64 = 1000;
 
+pub const OVER: u64 = 10000;
+
 pub const WEIGHT: u64 = 10000;
 
 // The bytes of a port answer and of a buffer answer.

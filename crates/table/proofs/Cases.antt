@@ -13,6 +13,7 @@ use Rattle.specification.specs.Reading.{
   rateFaulty,
   endsFaulty,
   amountFaulty,
+  eventsFaulty,
   delaysFaulty,
   ticksAt,
   eventsAt,
@@ -22,6 +23,7 @@ use Rattle.specification.specs.Reading.{
   linkAt,
   connectionAt,
   bufferAt,
+  fractionAt,
   kindAt,
   recordAt,
   readFrom,
@@ -47,6 +49,11 @@ connection from to num den ε δ = encode 2 (bytes 2 from ++ bytes 2 to ++ bytes
 
 buffer : (from to num den ε : ℕ) → List ℕ
 buffer from to num den ε = encode 3 (bytes 2 from ++ bytes 2 to ++ bytes 2 num ++ bytes 2 den ++ bytes 4 ε)
+
+-- a connection whose δ is a fraction
+fraction : (from to num den ε δ over : ℕ) → List ℕ
+fraction from to num den ε δ over =
+    encode 4 (bytes 2 from ++ bytes 2 to ++ bytes 2 num ++ bytes 2 den ++ bytes 4 ε ++ bytes 4 δ ++ bytes 4 over)
 
 -- the number below zero
 minus : ℕ → ℕ
@@ -74,9 +81,9 @@ cases =
     ∷ (2 ∷ 0 ∷ 1 ∷ [] gives 2 at 0)
     ∷ (7 ∷ 0 ∷ 1 ∷ 0 ∷ 1 ∷ 0 ∷ 1 ∷ 0 ∷ [] gives 2 at 0)
     ∷ (255 ∷ 255 ∷ 1 ∷ 0 ∷ [] gives 2 at 0)
-    -- 3: kinds 0, 4 and one beyond a byte
+    -- 3: kinds 0, 5 and one beyond a byte
     ∷ (encode 0 (1 ∷ 0 ∷ 1 ∷ 0 ∷ []) gives 3 at 0)
-    ∷ (encode 4 [] gives 3 at 0)
+    ∷ (encode 5 [] gives 3 at 0)
     ∷ (encode 257 (1 ∷ 0 ∷ 1 ∷ 0 ∷ []) gives 3 at 0)
     -- 4: a length that is not the kind's
     ∷ (encode 1 [] gives 4 at 0)
@@ -86,6 +93,9 @@ cases =
     ∷ (one ++ encode 2 (bytes 8 0 ++ bytes 8 0 ++ bytes 1 0) gives 4 at 8)
     ∷ (one ++ encode 3 (bytes 8 0 ++ bytes 8 0) gives 4 at 8)
     ∷ (one ++ encode 3 (bytes 8 0 ++ bytes 3 0) gives 4 at 8)
+    ∷ (one ++ encode 4 (bytes 8 0 ++ bytes 8 0) gives 4 at 8)
+    ∷ (one ++ encode 4 (bytes 8 0 ++ bytes 8 0 ++ bytes 3 0) gives 4 at 8)
+    ∷ (one ++ encode 4 (bytes 8 0 ++ bytes 8 0 ++ bytes 5 0) gives 4 at 8)
     -- 5: a port behind a connection, behind a buffer
     ∷ (one ++ connection 0 0 1 1 0 0 ++ one gives 5 at 28)
     ∷ (one ++ buffer 0 0 1 1 0 ++ one gives 5 at 24)
@@ -118,6 +128,18 @@ cases =
     ∷ (one ++ connection 0 0 1 1 2147483648 0 gives 11 at 8)
     ∷ (one ++ buffer 0 0 1 1 10000001 gives 11 at 8)
     ∷ (one ++ buffer 0 0 1 1 (minus 10000001) gives 11 at 8)
+    -- kind 4: the denominator of δ, and its value
+    ∷ (one ++ fraction 0 0 1 1 0 1 2 gives 0 at 0)
+    ∷ (one ++ fraction 0 0 1 1 0 0 10000 gives 0 at 0)
+    ∷ (one ++ fraction 0 0 1 1 0 2000 2 gives 0 at 0)
+    ∷ (one ++ fraction 0 0 1 1 0 (minus 10000000) 10000 gives 0 at 0)
+    ∷ (one ++ fraction 0 0 1 1 0 0 0 gives 11 at 8)
+    ∷ (one ++ fraction 0 0 1 1 0 0 10001 gives 11 at 8)
+    ∷ (one ++ fraction 0 0 1 1 0 1 (minus 1) gives 11 at 8)
+    ∷ (one ++ fraction 0 0 1 1 0 2001 2 gives 11 at 8)
+    ∷ (one ++ fraction 0 0 1 1 0 (minus 2001) 2 gives 11 at 8)
+    ∷ (one ++ fraction 0 0 1 1 10000001 0 1 gives 11 at 8)
+    ∷ (one ++ fraction 0 0 1 1 0 0 1 ++ one gives 5 at 32)
     -- 12
     ∷ ([] gives 12 at 0)
     -- several faults in one record: the lowest number
@@ -130,7 +152,7 @@ cases =
     ∷ (one ++ port 0 1 ++ one gives 8 at 8)
     ∷ (one ++ one ++ connection 0 2 1 1 0 0 ++ connection 0 1 1 1 0 0 gives 9 at 16)
     -- a fault behind a fault: the first record decides
-    ∷ (port 0 1 ++ encode 4 [] gives 8 at 0)
+    ∷ (port 0 1 ++ encode 5 [] gives 8 at 0)
     ∷ (one ++ connection 0 0 1 1 0 1001 ++ (0 ∷ []) gives 11 at 8)
     ∷ []
 
@@ -141,5 +163,6 @@ due : Case → ℕ × ℕ
 due c = (c .number, c .place)
 
 cases-hold : map given cases ≡ map due cases
-unfolding given due cases _gives_at_ port connection buffer minus one bytes encode numberAt forward back lengthFaulty partFaulty partsFaulty rateFaulty endsFaulty amountFaulty delaysFaulty ticksAt eventsAt portOf linkOf portAt linkAt connectionAt bufferAt kindAt recordAt readFrom readOn readTable
+unfolding given due cases _gives_at_ port connection buffer fraction minus one bytes encode numberAt forward back lengthFaulty partFaulty partsFaulty rateFaulty endsFaulty amountFaulty eventsFaulty delaysFaulty
+    ticksAt eventsAt portOf linkOf portAt linkAt connectionAt bufferAt fractionAt kindAt recordAt readFrom readOn readTable
 cases-hold = refl

@@ -2,19 +2,21 @@
 use Prim.Native.Nat.{ℕ, zero, suc, _+_, _*_, _-_, _≤_, _<_}
 use mathlib.Core.Path.{_≡_, refl, sym, _∙_}
 use mathlib.Core.Logic.{_≢_, _⊎_, inl, inr}
-use mathlib.Core.Bool.{Bool, true, false, not, and-true, and-false}
+use mathlib.Core.Bool.{Bool, true, false, not, cond, and-true, and-false}
 use mathlib.Core.List.{List, [], _∷_}
 use native.Mathlib.Omega.{arith}
 use native.Mathlib.Nat.{add-zero}
 use lib.ListN.{length, take}
-use lib.Seq.{getD-take, length-take-le}
-use lib.Dec.{eqb}
+use lib.Seq.{length-take-le}
+use lib.Dec.{eqb, ltb}
 use borrow.Author.Tests.{eqb-true, eqb-false, ne-eqb, not-false, le-leb, lt-leb, le-ltb}
 use Rattle.specification.specs.Bytes.{numberAt}
 use Rattle.specification.specs.Table.{Table, portCount, linkCount, mostPorts, mostLinks}
-use Rattle.specification.specs.Reading.{refuse, lengthFaulty, partsFaulty, rateFaulty, endsFaulty, ticksAt, eventsAt, portOf, linkOf, portAt, linkAt, connectionAt, bufferAt, kindAt, recordAt, Reading, withPort, withLink, after, readFrom, readOn, withTable, FaultPlace, start, readTable}
+use Rattle.specification.specs.Reading.{refuse, lengthFaulty, partsFaulty, rateFaulty, endsFaulty, ticksAt, eventsAt, portOf, linkOf, portAt, linkAt, connectionAt, bufferAt, fractionAt, kindAt, recordAt, Reading, withPort, withLink, after, readFrom, readOn, withTable, FaultPlace, start, readTable}
+use Rattle.specification.specs.Answers.{leastRoom, answerPlace}
 use Rattle.specification.specs.Demanded.{TableFault}
 use Rattle.specification.specs.Joining.{RecordFault}
+use Rattle.records.specs.NumberLaws.{number-front}
 use Rattle.table.specs.RecordLaws.{Onward, Accepted, accepted}
 use Rattle.table.specs.ReadingLaws.{bound-decides-nothing, read-on-fits}
 use Rattle.specification.specs.declared.Port.{Port}
@@ -25,12 +27,6 @@ use Rattle.specification.specs.declared.Read.{Read}
 use Rattle.specification.specs.declared.Read.the-variants.{PortRecord, LinkRecord, Refused, End}
 
 -- ---- the front of an input
--- a number that lies in the first m bytes
-number-front : (s : List ℕ) (m at n : ℕ) → at + n ≤ m → numberAt (take m s) at n ≡ numberAt s at n
-unfolding numberAt
-number-front s m at zero h = refl
-number-front s m at (suc n) h = rw (getD-take m s at 0 (omega arith), number-front s m (at + 1) n (omega arith))
-
 refuse-same : (at n : ℕ) (test : Bool) {r r′ : Read} → (test ≡ false → r ≡ r′) → refuse at n test r ≡ refuse at n test r′
 refuse-same at n true e = refl
 refuse-same at n false e = e refl
@@ -51,9 +47,9 @@ module _ (s : List ℕ) (m at : ℕ) (b : Before) where
       let e = eqb-true n 6 (not-false (eqb n 6) size) in
       rw (field (at + 4) 2 (omega arith), field (at + 4 + 2) 2 (omega arith)))
 
-  link-front : (events : Events) (buffer : Bool) (next : ℕ) → at + 16 ≤ m → linkAt front at b events buffer next ≡ linkAt s at b events buffer next
+  link-front : (events : Events) (over kind next : ℕ) → at + 16 ≤ m → linkAt front at b events over kind next ≡ linkAt s at b events over kind next
   unfolding linkAt endsFaulty partsFaulty ticksAt linkOf
-  link-front events buffer next h =
+  link-front events over kind next h =
       rw (
         field (at + 4) 2 (omega arith),
         field (at + 4 + 2) 2 (omega arith),
@@ -65,18 +61,26 @@ module _ (s : List ℕ) (m at : ℕ) (b : Before) where
       )
 
   kind-front : (n kind : ℕ) → at + 2 + n ≤ m → kindAt front at n kind b ≡ kindAt s at n kind b
-  unfolding kindAt connectionAt bufferAt eventsAt
-  kind-front n kind h = rw (port-front n h, connection, buffer)
+  unfolding kindAt connectionAt bufferAt fractionAt eventsAt
+  kind-front n kind h = rw (port-front n h, connection, buffer, fraction)
     where
       connection : connectionAt front at n b ≡ connectionAt s at n b
       connection =
           refuse-same at 4 (not (eqb n 18))
           (λ size.
           let e = eqb-true n 18 (not-false (eqb n 18) size) in
-          rw (field (at + 16) 4 (omega arith)) (link-front (eventsAt s (at + 16)) false (at + 20) (omega arith)))
+          rw (field (at + 16) 4 (omega arith)) (link-front (eventsAt s (at + 16)) 1 2 (at + 20) (omega arith)))
 
       buffer : bufferAt front at n b ≡ bufferAt s at n b
-      buffer = refuse-same at 4 (not (eqb n 14)) (λ size. link-front (0, 0) true (at + 16) (omega (arith, eqb-true n 14 (not-false (eqb n 14) size))))
+      buffer = refuse-same at 4 (not (eqb n 14)) (λ size. link-front (0, 0) 1 3 (at + 16) (omega (arith, eqb-true n 14 (not-false (eqb n 14) size))))
+
+      fraction : fractionAt front at n b ≡ fractionAt s at n b
+      fraction =
+          refuse-same at 4 (not (eqb n 22))
+          (λ size.
+          let e = eqb-true n 22 (not-false (eqb n 22) size) in
+          rw (field (at + 16) 4 (omega arith), field (at + 20) 4 (omega arith))
+          (link-front (eventsAt s (at + 16)) (numberAt s (at + 20) 4) 4 (at + 24) (omega arith)))
 
   record-front : {least most next : ℕ} → Onward s at least most next → 4 ≤ least → next ≤ m → m ≤ length s → recordAt front at b ≡ recordAt s at b
   unfolding recordAt lengthFaulty
@@ -114,7 +118,7 @@ record FaultFrom (s : List ℕ) (at : ℕ) (b : Before) (n : ℕ) (r : Reading) 
   least : 2 ≤ r .number
   most : r .number ≤ 11
   onward : at ≤ r .place
-  near : r .place ≤ at + 8 * portCount (r .table) + 20 * linkCount (r .table)
+  near : r .place ≤ at + 8 * portCount (r .table) + 24 * linkCount (r .table)
   within : r .place < length s
   front : readFrom n (take (r .place) s) at b ≡ record { number = 0; place = 0; table = r .table }
   faulty : recordAt s (r .place) (withTable b (r .table)) ≡ Refused (r .number) (r .place)
@@ -126,7 +130,7 @@ module _ (s : List ℕ) (n at : ℕ) (b : Before) where
     is : (rest : ℕ → Before → Reading)
         → after rest b r ≡ record { number = rest next c .number; place = rest next c .place; table = add (rest next c .table) }
     before : (t : Table) → withTable c t ≡ withTable b (add t)
-    near : (t : Table) → next + 8 * portCount t + 20 * linkCount t ≤ at + 8 * portCount (add t) + 20 * linkCount (add t)
+    near : (t : Table) → next + 8 * portCount t + 24 * linkCount t ≤ at + 8 * portCount (add t) + 24 * linkCount (add t)
 
   adds-port : (p : Port) (next : ℕ) → Onward s at 8 8 next → Adds (PortRecord p next) next (withPort b)
   adds-port p next onward = record {
@@ -136,7 +140,7 @@ module _ (s : List ℕ) (n at : ℕ) (b : Before) where
     near = λ t. omega (arith, onward);
   }
 
-  adds-link : (l : Link) (next : ℕ) → Onward s at 16 20 next → Adds (LinkRecord l next) next (withLink b)
+  adds-link : (l : Link) (next : ℕ) → Onward s at 16 24 next → Adds (LinkRecord l next) next (withLink b)
   adds-link l next onward = record {
     add = λ t. record { ports = t .ports; links = l ∷ t .links };
     is = λ rest. refl;
@@ -275,12 +279,21 @@ module _ (s : List ℕ) where
       by (some g e) (inl l) = absurd (omega (arith, e, fault-from s start g .least))
       by (some g e) (inr l) = absurd (omega (arith, e, fault-from s start g .most))
 
+  -- what is returned with the answer is no place either, whatever the room
+  pub answer-no-place : (room : ℕ) → readTable s .place ≡ 0 → answerPlace s room ≡ 0
+  unfolding answerPlace
+  answer-no-place room e = rw e (by (ltb room leastRoom))
+    where
+      by : (short : Bool) → _≡_ {A = ℕ} (cond short 0 0) 0
+      by true = refl
+      by false = refl
+
   -- no fault lies behind the most ports and links that a table can have, so none far into a long input
-  pub place-most : readTable s .place ≤ 8 * mostPorts + 20 * mostLinks
+  pub place-most : readTable s .place ≤ 8 * mostPorts + 24 * mostLinks
   unfolding readTable
   place-most = by (table-case s)
     where
-      by : TableCase s → readTable s .place ≤ 8 * mostPorts + 20 * mostLinks
+      by : TableCase s → readTable s .place ≤ 8 * mostPorts + 24 * mostLinks
       by (none e n) = omega (arith, no-fault-place s start e)
       by (some g e) =
           let few = read-on-fits s start in

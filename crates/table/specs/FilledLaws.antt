@@ -42,7 +42,7 @@ pub front-none : (ports links : List ℕ) → Front (record { ports = []; links 
 front-none ports links = record { ports-are = refl; links-are = refl }
 
 -- the table of the slices' parts
-pub front-table : {t : Table} {ports links : List ℕ} {p m : ℕ} → Front t ports links p m → tableOf (take (2 * p) ports) (take (9 * m) links) ≡ t
+pub front-table : {t : Table} {ports links : List ℕ} {p m : ℕ} → Front t ports links p m → tableOf (take (2 * p) ports) (take (10 * m) links) ≡ t
 front-table {t} f = rw (f .ports-are, f .links-are) (table-back t)
 
 module _ {b : Before} {r : Reading} {ports links ports′ links′ : List ℕ} {c : Counts} (f : Filled b r ports links ports′ links′ c) where
@@ -56,7 +56,7 @@ module _ {b : Before} {r : Reading} {ports links ports′ links′ : List ℕ} {
         ports-are = rw (f .ports-are, port-numbers-append (t .ports) ps, ← g .ports-are) (
             front-sets ports (portNumbers ps) (2 * b .ports) (2 * c .«port_count») (omega (arith, f .port-count, length-port-numbers ps)) (f .port-room));
         links-are = rw (f .links-are, link-numbers-append (t .links) ls, ← g .links-are) (
-            front-sets links (linkNumbers ls) (9 * b .links) (9 * c .«link_count»)
+            front-sets links (linkNumbers ls) (10 * b .links) (10 * c .«link_count»)
             (omega (arith, f .link-count, length-link-numbers ls, length-map (r .table .links) (moved (b .ports - b .named)))) (f .link-room));
       }
 
@@ -64,9 +64,9 @@ module _ {r : Reading} {ports links ports′ links′ : List ℕ} {c : Counts} (
   pub front-read : Front (r .table) ports′ links′ (c .«port_count») (c .«link_count»)
   front-read = let g = front-on f (front-none ports links) in record { ports-are = g .ports-are; links-are = g .links-are ∙ ap linkNumbers (moved-none (r .table .links)) }
 
-  pub table-read : tableOf (take (2 * c .«port_count») ports′) (take (9 * c .«link_count») links′) ≡ r .table
+  pub table-read : tableOf (take (2 * c .«port_count») ports′) (take (10 * c .«link_count») links′) ≡ r .table
   table-read = front-table front-read
 
 pub formed-read : (s : List ℕ) {ports links ports′ links′ : List ℕ} {c : Counts} → Filled start (readTable s) ports links ports′ links′ c → c .number ≡ 0
-    → WellFormed (tableOf (take (2 * c .«port_count») ports′) (take (9 * c .«link_count») links′))
+    → WellFormed (tableOf (take (2 * c .«port_count») ports′) (take (10 * c .«link_count») links′))
 formed-read s f e = rw (table-read f) (well-formed s refl (sym (f .number) ∙ e))

@@ -68,7 +68,7 @@ all-cons P d x xs first others (suc k) h = others k (omega arith)
 
 -- a link between other ports
 abbrev pub between : (from to : ℕ) → Link → Link
-between from to l = record { from = from; to = to; num = l .num; den = l .den; ticks = l .ticks; events = l .events; buffer = l .buffer }
+between from to l = record { from = from; to = to; num = l .num; den = l .den; ticks = l .ticks; events = l .events; over = l .over; kind = l .kind }
 
 pub between-fits : {m n : ℕ} {l : Link} (from to : ℕ) → LinkFits m l → from < n → to < n → LinkFits n (between from to l)
 between-fits from to f from-below to-below = record {
@@ -78,8 +78,12 @@ between-fits from to f from-below to-below = record {
   den = f .den;
   ticks-forward = f .ticks-forward;
   ticks-back = f .ticks-back;
+  over-least = f .over-least;
+  over-most = f .over-most;
   events-forward = f .events-forward;
   events-back = f .events-back;
+  kind-least = f .kind-least;
+  kind-most = f .kind-most;
 }
 
 pub fits-more : {m : ℕ} {l : Link} (n : ℕ) → LinkFits m l → m ≤ n → LinkFits n l

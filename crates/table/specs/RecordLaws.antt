@@ -1,6 +1,6 @@
 -- What is known of a record that was read.
 use Prim.Native.Nat.{ℕ, _+_, _*_, _-_, _≤_, _<_}
-use mathlib.Core.Path.{_≡_, refl, sym}
+use mathlib.Core.Path.{_≡_, refl, sym, _∙_}
 use mathlib.Core.Bool.{Bool, true, false, not, _||_, cond, true≢false}
 use mathlib.Core.List.{List}
 use native.Mathlib.Omega.{arith}
@@ -9,7 +9,7 @@ use lib.ListN.{length}
 use lib.Dec.{ltb, leb, eqb}
 use borrow.Author.Tests.{ltb-false, leb-true, leb-false, eqb-false, eqb-true, not-false}
 use Rattle.specification.specs.Bytes.{numberAt}
-use Rattle.specification.specs.Table.{mostPorts, mostLinks, mostPart, mostTicks, mostEvents}
+use Rattle.specification.specs.Table.{mostPorts, mostLinks, mostPart, mostTicks, mostEvents, mostOver}
 use Rattle.table.specs.WellFormed.{PartFits, PortFits, LinkFits, OneSided}
 use Rattle.specification.specs.Reading.{
   forward,
@@ -21,6 +21,7 @@ use Rattle.specification.specs.Reading.{
   rateFaulty,
   endsFaulty,
   amountFaulty,
+  eventsFaulty,
   delaysFaulty,
   ticksAt,
   eventsAt,
@@ -30,6 +31,7 @@ use Rattle.specification.specs.Reading.{
   linkAt,
   connectionAt,
   bufferAt,
+  fractionAt,
   kindAt,
   recordAt,
 }
@@ -58,7 +60,7 @@ pub record PortAccepted (s : List ℕ) (at : ℕ) (before : Before) (p : Port) (
 
 -- a connection or buffer: there was room for it, and it is within the limits
 pub record LinkAccepted (s : List ℕ) (at : ℕ) (before : Before) (l : Link) (next : ℕ) : Type 0 where
-  pub onward : Onward s at 16 20 next
+  pub onward : Onward s at 16 24 next
   pub kind : eqb (numberAt s (at + 2) 2) 1 ≡ false
   pub room : before .links < mostLinks
   pub fits : LinkFits (before .named) l
@@ -162,6 +164,38 @@ amount-fits most forward back h =
     let both = neither (ltb most forward) (ltb most back) h in
     record { above = ltb-false most forward (both .left); below = ltb-false most back (both .right) }
 
+record EventsFit (events : Events) (over : ℕ) : Type 0 where
+  least : 0 < over
+  most : over ≤ mostOver
+  amount : AmountFits (mostEvents * over) (events .0) (events .1)
+
+events-fit : (events : Events) (over : ℕ) → eventsFaulty events over ≡ false → EventsFit events over
+unfolding eventsFaulty
+events-fit events over h =
+    let within = amountFaulty (mostEvents * over) (events .0) (events .1) in
+    let outer = neither (eqb over 0) (ltb mostOver over || within) h in
+    let inner = neither (ltb mostOver over) within (outer .right) in
+    record {
+      least = pos-of-ne-zero (eqb-false over 0 (outer .left));
+      most = ltb-false mostOver over (inner .left);
+      amount = amount-fits (mostEvents * over) (events .0) (events .1) (inner .right);
+    }
+
+-- where no delay has a fault, neither has the denominator
+pub delays-over : (ticks : Ticks) (events : Events) (over : ℕ) {faulty : Bool} → faulty ≡ delaysFaulty ticks events over → faulty ≡ false
+    → over ≤ mostOver
+unfolding delaysFaulty
+delays-over ticks events over e none =
+    events-fit events over (neither (amountFaulty mostTicks (ticks .0) (ticks .1)) (eventsFaulty events over) (sym e ∙ none) .right) .most
+
+-- what a kind of link says of its events
+record OfKind (events : Events) (over kind : ℕ) : Type 0 where
+  one : events .0 * events .1 ≡ 0
+  none : eqb kind 3 ≡ true → events ≡ (0, 0)
+  whole : eqb kind 4 ≡ false → over ≡ 1
+  least : 2 ≤ kind
+  most : kind ≤ 4
+
 -- two's complement gives one amount
 one-side : (v : ℕ) → forward v * back v ≡ 0
 unfolding forward back
@@ -203,30 +237,28 @@ module _ (s : List ℕ) (at : ℕ) (before : Before) where
         fits = rate-fits s (at + 4) rate;
       }
 
-  tells-link : (events : Events) (buffer : Bool) (next : ℕ) → Onward s at 16 20 next → eqb (numberAt s (at + 2) 2) 1 ≡ false
-      → events .0 * events .1 ≡ 0
-      → (buffer ≡ true → events ≡ (0, 0))
-      → Tells (linkAt s at before events buffer next)
+  tells-link : (events : Events) (over kind next : ℕ) → Onward s at 16 24 next → eqb (numberAt s (at + 2) 2) 1 ≡ false → OfKind events over kind
+      → Tells (linkAt s at before events over kind next)
   unfolding linkAt linkOf delaysFaulty ticksAt
-  tells-link events buffer next onward kind one none = behind 7 (omega (arith, onward)) _ _ (λ room. behind 9 (omega (arith, onward)) _ _ (λ ends. behind 10 (omega (arith, onward)) _ _ (λ parts. behind 11 (omega (arith, onward)) _ _ (λ amounts. record { told = told room ends parts amounts }))))
+  tells-link events over kind next onward no-port of-kind = behind 7 (omega (arith, onward)) _ _ (λ room. behind 9 (omega (arith, onward)) _ _ (λ ends. behind 10 (omega (arith, onward)) _ _ (λ parts. behind 11 (omega (arith, onward)) _ _ (λ amounts. record { told = told room ends parts amounts }))))
     where
       ticks : Ticks
       ticks = ticksAt s (at + 12)
 
       told : leb mostLinks (before .links) ≡ false → endsFaulty s (at + 4) (before .named) ≡ false → partsFaulty s (at + 8) ≡ false
-          → delaysFaulty ticks events ≡ false
-          → LinkAccepted s at before (linkOf s (at + 4) ticks events buffer) next
+          → delaysFaulty ticks events over ≡ false
+          → LinkAccepted s at before (linkOf s (at + 4) ticks events over kind) next
       told room ends parts amounts =
           let e = ends-fit s (at + 4) (before .named) ends in
           let p = parts-fit s (at + 8) parts in
-          let both = neither (amountFaulty mostTicks (ticks .0) (ticks .1)) (amountFaulty mostEvents (events .0) (events .1)) amounts in
+          let both = neither (amountFaulty mostTicks (ticks .0) (ticks .1)) (eventsFaulty events over) amounts in
           let t = amount-fits mostTicks (ticks .0) (ticks .1) (both .left) in
-          let v = amount-fits mostEvents (events .0) (events .1) (both .right) in
+          let v = events-fit events over (both .right) in
           let num : at + 4 + 4 ≡ at + 8 = omega arith in
           let den : at + 4 + 6 ≡ at + 8 + 2 = omega arith in
           record {
             onward = onward;
-            kind = kind;
+            kind = no-port;
             room = leb-false mostLinks (before .links) room;
             fits = record {
               from = e .from;
@@ -235,19 +267,53 @@ module _ (s : List ℕ) (at : ℕ) (before : Before) where
               den = rw den (p .den);
               ticks-forward = t .above;
               ticks-back = t .below;
-              events-forward = v .above;
-              events-back = v .below;
+              over-least = v .least;
+              over-most = v .most;
+              events-forward = v .amount .above;
+              events-back = v .amount .below;
+              kind-least = of-kind .least;
+              kind-most = of-kind .most;
             };
-            sided = record { ticks = one-side (numberAt s (at + 12) 4); events = one; no-events = none };
+            sided = record {
+              ticks = one-side (numberAt s (at + 12) 4);
+              events = of-kind .one;
+              no-events = of-kind .none;
+              whole-events = of-kind .whole;
+            };
           }
 
+  -- kinds 2, 3 and 4
+  connection-kind : OfKind (eventsAt s (at + 16)) 1 2
+  unfolding eventsAt
+  connection-kind = record {
+    one = one-side (numberAt s (at + 16) 4);
+    none = λ e. absurd (true≢false (sym e));
+    whole = λ _. refl;
+    least = omega arith;
+    most = omega arith;
+  }
+
+  buffer-kind : OfKind (0, 0) 1 3
+  buffer-kind = record { one = refl; none = λ _. refl; whole = λ _. refl; least = omega arith; most = omega arith }
+
+  fraction-kind : OfKind (eventsAt s (at + 16)) (numberAt s (at + 20) 4) 4
+  unfolding eventsAt
+  fraction-kind = record {
+    one = one-side (numberAt s (at + 16) 4);
+    none = λ e. absurd (true≢false (sym e));
+    whole = λ e. absurd (true≢false e);
+    least = omega arith;
+    most = omega arith;
+  }
+
   tells-kind : (n : ℕ) → numberAt s at 2 ≡ n → at + 2 + n ≤ length s → Tells (kindAt s at n (numberAt s (at + 2) 2) before)
-  unfolding kindAt connectionAt bufferAt eventsAt
+  unfolding kindAt connectionAt bufferAt fractionAt
   tells-kind n is ends =
       either (eqb (numberAt s (at + 2) 2) 1) _ _ (tells-port n is ends)
-      (λ kind. either (eqb (numberAt s (at + 2) 2) 2) _ _ (λ _. behind 4 (omega arith) (not (eqb n 18)) _ (λ size. tells-link (eventsAt s (at + 16)) false (at + 20) (omega (arith, sized n 18 size)) kind (one-side (numberAt s (at + 16) 4)) (λ e. absurd (true≢false (sym e)))))
-      (λ _. either (eqb (numberAt s (at + 2) 2) 3) _ (Refused 3 at) (λ _. behind 4 (omega arith) (not (eqb n 14)) _ (λ size. tells-link (0, 0) true (at + 16) (omega (arith, sized n 14 size)) kind (omega arith) (λ _. refl)))
-      (λ _. record { told = omega arith })))
+      (λ kind. either (eqb (numberAt s (at + 2) 2) 2) _ _ (λ _. behind 4 (omega arith) (not (eqb n 18)) _ (λ size. tells-link (eventsAt s (at + 16)) 1 2 (at + 20) (omega (arith, sized n 18 size)) kind connection-kind))
+      (λ _. either (eqb (numberAt s (at + 2) 2) 3) _ _ (λ _. behind 4 (omega arith) (not (eqb n 14)) _ (λ size. tells-link (0, 0) 1 3 (at + 16) (omega (arith, sized n 14 size)) kind buffer-kind))
+      (λ _. either (eqb (numberAt s (at + 2) 2) 4) _ (Refused 3 at) (λ _. behind 4 (omega arith) (not (eqb n 22)) _ (λ size. tells-link (eventsAt s (at + 16)) (numberAt s (at + 20) 4) 4 (at + 24) (omega (arith, sized n 22 size)) kind fraction-kind))
+      (λ _. record { told = omega arith }))))
 
   -- reading a record tells this
   pub accepted : Accepted s at before (recordAt s at before)

@@ -1,15 +1,12 @@
 -- Laws of tables in slices.
 use Prim.Native.Nat.{ℕ, zero, suc, _+_, _*_, _/_, _≤_, _<_}
 use mathlib.Core.Path.{_≡_, refl, ap, sym, _∙_}
-use mathlib.Core.Bool.{Bool, true, false}
 use mathlib.Core.List.{List, [], _∷_, _++_}
 use native.Mathlib.Decide.{ℕ-discrete}
 use native.Mathlib.Nat.{suc-add}
 use native.Mathlib.Omega.{arith}
 use lib.ListN.{length, getD, length-append, List·getD-append}
 use lib.Seq.{getD-append-seam, ext-getD}
-use lib.Dec.{eqb}
-use mir.Val.{boolByte}
 use Rattle.specification.specs.Table.{Table, noPort, noLink}
 use Rattle.table.specs.Slices.{portNumbers, linkNumbers, portIn, linkIn, firsts, portsOf, linksOf, tableOf, PortFields, LinkFields, SameLink}
 use Rattle.specification.specs.declared.Port.{Port}
@@ -38,9 +35,9 @@ pub count-ports : (s : List ℕ) → length (portsOf s) ≡ length s / 2
 unfolding portsOf
 count-ports s = length-firsts (portIn s) (length s / 2)
 
-pub count-links : (s : List ℕ) → length (linksOf s) ≡ length s / 9
+pub count-links : (s : List ℕ) → length (linksOf s) ≡ length s / 10
 unfolding linksOf
-count-links s = length-firsts (linkIn s) (length s / 9)
+count-links s = length-firsts (linkIn s) (length s / 10)
 
 pub port-in : (s : List ℕ) (p : ℕ) → p < length (portsOf s) → getD (portsOf s) p noPort ≡ portIn s p
 unfolding portsOf
@@ -48,7 +45,7 @@ port-in s p h = getD-firsts (portIn s) (length s / 2) p noPort (omega (arith, co
 
 pub link-in : (s : List ℕ) (k : ℕ) → k < length (linksOf s) → getD (linksOf s) k noLink ≡ linkIn s k
 unfolding linksOf
-link-in s k h = getD-firsts (linkIn s) (length s / 9) k noLink (omega (arith, count-links s))
+link-in s k h = getD-firsts (linkIn s) (length s / 10) k noLink (omega (arith, count-links s))
 
 pub same-port : (s : List ℕ) (p : ℕ) {r : Port} → p < length (portsOf s) → PortFields r (portIn s p) → PortFields r (getD (portsOf s) p noPort)
 same-port s p h f = rw (port-in s p h) f
@@ -66,7 +63,8 @@ same-link s k {r} h f =
         den = f .den i;
         ticks = ticks i;
         events = events i;
-        buffer = f .buffer i;
+        over = f .over i;
+        kind = f .kind i;
       };
       fields = f;
       ticks = ticks;
@@ -77,7 +75,7 @@ same-link s k {r} h f =
 pub port-room : (s : List ℕ) (p : ℕ) → p < length (portsOf s) → 2 * p + 2 ≤ length s
 port-room s p h = omega (arith, count-ports s)
 
-pub link-room : (s : List ℕ) (k : ℕ) → k < length (linksOf s) → 9 * k + 9 ≤ length s
+pub link-room : (s : List ℕ) (k : ℕ) → k < length (linksOf s) → 10 * k + 10 ≤ length s
 link-room s k h = omega (arith, count-links s)
 
 -- ---- the numbers of ports and links are of these ports and links
@@ -85,13 +83,9 @@ pub length-port-numbers : (ps : List Port) → length (portNumbers ps) ≡ 2 * l
 length-port-numbers [] = refl
 length-port-numbers (p ∷ ps) = omega (arith, length-port-numbers ps)
 
-pub length-link-numbers : (ls : List Link) → length (linkNumbers ls) ≡ 9 * length ls
+pub length-link-numbers : (ls : List Link) → length (linkNumbers ls) ≡ 10 * length ls
 length-link-numbers [] = refl
 length-link-numbers (l ∷ ls) = omega (arith, length-link-numbers ls)
-
-buffer-back : (b : Bool) → eqb (boolByte b) 1 ≡ b
-buffer-back true = refl
-buffer-back false = refl
 
 pub port-back : (ps : List Port) (p : ℕ) → p < length ps → portIn (portNumbers ps) p ≡ getD ps p noPort
 port-back [] p h = absurd (omega arith)
@@ -102,10 +96,10 @@ port-back (x ∷ ps) (suc p) h =
 
 pub link-back : (ls : List Link) (k : ℕ) → k < length ls → linkIn (linkNumbers ls) k ≡ getD ls k noLink
 link-back [] k h = absurd (omega arith)
-link-back (l ∷ ls) zero h = rw (buffer-back (l .buffer))
+link-back (l ∷ ls) zero h = refl
 link-back (l ∷ ls) (suc k) h =
-    let nine : 9 * suc k ≡ suc (suc (suc (suc (suc (suc (suc (suc (suc (9 * k))))))))) = omega arith in
-    simp (nine, suc-add) (link-back ls k (omega arith))
+    let ten : 10 * suc k ≡ suc (suc (suc (suc (suc (suc (suc (suc (suc (suc (10 * k)))))))))) = omega arith in
+    simp (ten, suc-add) (link-back ls k (omega arith))
 
 pub ports-back : (ps : List Port) → portsOf (portNumbers ps) ≡ ps
 ports-back ps =

@@ -1,10 +1,8 @@
--- How a table stands in two slices of numbers: two numbers for each port, nine for each link.
+-- How a table stands in two slices of numbers: two numbers for each port, ten for each link.
 use Prim.Native.Nat.{ℕ, zero, suc, _+_, _*_, _/_}
 use mathlib.Core.Path.{_≡_}
 use mathlib.Core.List.{List, [], _∷_, _++_}
 use lib.ListN.{length, getD}
-use lib.Dec.{eqb}
-use mir.Val.{boolByte}
 use Rattle.specification.specs.Table.{Table}
 use Rattle.specification.specs.declared.Port.{Port}
 use Rattle.specification.specs.declared.Link.{Link}
@@ -14,11 +12,10 @@ abbrev pub portNumbers : List Port → List ℕ
 portNumbers [] = []
 portNumbers (p ∷ ps) = p .num ∷ p .den ∷ portNumbers ps
 
--- 1 for a buffer
 abbrev pub linkNumbers : List Link → List ℕ
 linkNumbers [] = []
 linkNumbers (l ∷ ls) =
-    l .from ∷ l .to ∷ l .num ∷ l .den ∷ l .ticks .0 ∷ l .ticks .1 ∷ l .events .0 ∷ l .events .1 ∷ boolByte (l .buffer) ∷ linkNumbers ls
+    l .from ∷ l .to ∷ l .num ∷ l .den ∷ l .ticks .0 ∷ l .ticks .1 ∷ l .events .0 ∷ l .events .1 ∷ l .over ∷ l .kind ∷ linkNumbers ls
 
 -- ---- the table that slices are of: as many ports and links as there are numbers for
 abbrev pub portIn : List ℕ → ℕ → Port
@@ -26,13 +23,14 @@ portIn s p = record { num = getD s (2 * p) 0; den = getD s (2 * p + 1) 0 }
 
 abbrev pub linkIn : List ℕ → ℕ → Link
 linkIn s k = record {
-  from = getD s (9 * k) 0;
-  to = getD s (9 * k + 1) 0;
-  num = getD s (9 * k + 2) 0;
-  den = getD s (9 * k + 3) 0;
-  ticks = (getD s (9 * k + 4) 0, getD s (9 * k + 5) 0);
-  events = (getD s (9 * k + 6) 0, getD s (9 * k + 7) 0);
-  buffer = eqb (getD s (9 * k + 8) 0) 1;
+  from = getD s (10 * k) 0;
+  to = getD s (10 * k + 1) 0;
+  num = getD s (10 * k + 2) 0;
+  den = getD s (10 * k + 3) 0;
+  ticks = (getD s (10 * k + 4) 0, getD s (10 * k + 5) 0);
+  events = (getD s (10 * k + 6) 0, getD s (10 * k + 7) 0);
+  over = getD s (10 * k + 8) 0;
+  kind = getD s (10 * k + 9) 0;
 }
 
 -- f of 0, 1, .. up to n
@@ -44,7 +42,7 @@ unfoldable pub portsOf : List ℕ → List Port
 portsOf s = firsts (portIn s) (length s / 2)
 
 unfoldable pub linksOf : List ℕ → List Link
-linksOf s = firsts (linkIn s) (length s / 9)
+linksOf s = firsts (linkIn s) (length s / 10)
 
 abbrev pub tableOf : (ports links : List ℕ) → Table
 tableOf ports links = record { ports = portsOf ports; links = linksOf links }
@@ -63,7 +61,8 @@ pub record LinkFields (r x : Link) : Type 0 where
   pub ticks-back : r .ticks .1 ≡ x .ticks .1
   pub events-forward : r .events .0 ≡ x .events .0
   pub events-back : r .events .1 ≡ x .events .1
-  pub buffer : r .buffer ≡ x .buffer
+  pub over : r .over ≡ x .over
+  pub kind : r .kind ≡ x .kind
 
 -- and the whole too
 pub record SameLink (r x : Link) : Type 0 where

@@ -1,10 +1,11 @@
 -- What it is for a table to be within its limits.
 use Prim.Native.Nat.{ℕ, _*_, _≤_, _<_}
 use mathlib.Core.Path.{_≡_}
-use mathlib.Core.Bool.{true}
+use mathlib.Core.Bool.{true, false}
+use lib.Dec.{eqb}
 use Rattle.specification.specs.declared.Port.{Port}
 use Rattle.specification.specs.declared.Link.{Link}
-use Rattle.specification.specs.Table.{Table, portCount, linkCount, port, link, mostPart, mostTicks, mostPorts, mostEvents, mostLinks}
+use Rattle.specification.specs.Table.{Table, portCount, linkCount, port, link, isBuffer, mostPart, mostTicks, mostPorts, mostEvents, mostOver, mostLinks}
 
 pub record PartFits (x : ℕ) : Type 0 where
   pub least : 0 < x
@@ -25,14 +26,19 @@ pub record LinkFits (ports : ℕ) (l : Link) : Type 0 where
   pub den : PartFits (l .den)
   pub ticks-forward : l .ticks .0 ≤ mostTicks
   pub ticks-back : l .ticks .1 ≤ mostTicks
-  pub events-forward : l .events .0 ≤ mostEvents
-  pub events-back : l .events .1 ≤ mostEvents
+  pub over-least : 0 < l .over
+  pub over-most : l .over ≤ mostOver
+  pub events-forward : l .events .0 ≤ mostEvents * l .over
+  pub events-back : l .events .1 ≤ mostEvents * l .over
+  pub kind-least : 2 ≤ l .kind
+  pub kind-most : l .kind ≤ 4
 
--- an amount forward or an amount back is zero, and a buffer has no events
+-- an amount forward or an amount back is zero, a buffer has no events, and only kind 4 has a denominator other than 1
 pub record OneSided (l : Link) : Type 0 where
   pub ticks : l .ticks .0 * l .ticks .1 ≡ 0
   pub events : l .events .0 * l .events .1 ≡ 0
-  pub no-events : l .buffer ≡ true → l .events ≡ (0, 0)
+  pub no-events : isBuffer l ≡ true → l .events ≡ (0, 0)
+  pub whole-events : eqb (l .kind) 4 ≡ false → l .over ≡ 1
 
 -- what holds of every table that is read with number 0
 pub record WellFormed (t : Table) : Type 0 where

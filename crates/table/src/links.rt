@@ -1,11 +1,11 @@
-// The links of a table as a slice of numbers, nine for each: from, to, the parts of its ratio, ticks forward and back, events forward and
-// back, and 1 for a buffer or 0.
+// The links of a table as a slice of numbers, ten for each: from, to, the parts of its ratio, ticks forward and back, events forward and
+// back and their denominator, and its kind.
 ghost use mathlib.Core.Path.{_≡_};
 ghost use Prim.Native.Nat.{_+_, _*_, _≤_, _<_};
 ghost use mathlib.Core.List.{[], _∷_};
 ghost use lib.ListN.{length, getD};
 ghost use lib.Seq.{sets};
-ghost use Rattle.specification.specs.Table.{noLink};
+ghost use Rattle.specification.specs.Table.{noLink, isBuffer};
 ghost use Rattle.table.specs.WellFormed.{LinkFits};
 ghost use Rattle.table.specs.Slices.{linkNumbers, linkIn, linksOf, LinkFields, SameLink};
 use crate::numbers;
@@ -14,13 +14,13 @@ use specification::Events;
 use specification::Link;
 use specification::Ticks;
 
-pub const WIDTH: usize = 9;
+pub const WIDTH: usize = 10;
 
 // Room for the most links of a table.
-pub fn room() -> [u32; 2304]
-    ensures { λ r. ⌜ 2304 ≡ length r ⌝ }
+pub fn room() -> [u32; 2560]
+    ensures { λ r. ⌜ 2560 ≡ length r ⌝ }
 {
-    [0; 2304]
+    [0; 2560]
 }
 
 pub fn count(links: &[u32]) -> usize
@@ -29,9 +29,9 @@ pub fn count(links: &[u32]) -> usize
     links.len() / WIDTH
 }
 
-// The link whose numbers stand at 9 * k.
+// The link whose numbers stand at 10 * k.
 fn read(links: &[u32], k: usize) -> Link
-    requires { ⌜ 9 * k + 9 ≤ length (now links) ⌝ }
+    requires { ⌜ 10 * k + 10 ≤ length (now links) ⌝ }
     ensures { λ r. ⌜ LinkFields r (linkIn (now (links .entry)) k) ⌝ }
 {
     let at = WIDTH * k;
@@ -42,7 +42,8 @@ fn read(links: &[u32], k: usize) -> Link
         den: numbers::wide(links[at + 3]),
         ticks: Ticks(numbers::wide(links[at + 4]), numbers::wide(links[at + 5])),
         events: Events(numbers::wide(links[at + 6]), numbers::wide(links[at + 7])),
-        buffer: links[at + 8] == 1,
+        over: links[at + 8],
+        kind: links[at + 9],
     }
 }
 
@@ -89,19 +90,34 @@ pub fn den(links: &[u32], k: usize) -> u64
     link(links, k).den
 }
 
+pub fn over(links: &[u32], k: usize) -> u32
+    requires { ⌜ k < length (linksOf (now links)) ⌝ }
+    ensures { λ r. ⌜ r ≡ getD (linksOf (now (links .entry))) k noLink .over ⌝ }
+{
+    link(links, k).over
+}
+
+pub fn kind(links: &[u32], k: usize) -> u32
+    requires { ⌜ k < length (linksOf (now links)) ⌝ }
+    ensures { λ r. ⌜ r ≡ getD (linksOf (now (links .entry))) k noLink .kind ⌝ }
+{
+    link(links, k).kind
+}
+
 pub fn buffer(links: &[u32], k: usize) -> bool
     requires { ⌜ k < length (linksOf (now links)) ⌝ }
-    ensures { λ r. ⌜ r ≡ getD (linksOf (now (links .entry))) k noLink .buffer ⌝ }
+    ensures { λ r. ⌜ r ≡ isBuffer (getD (linksOf (now (links .entry))) k noLink) ⌝ }
 {
-    link(links, k).buffer
+    link(links, k).kind == 3
 }
 
 // Link k.
 pub fn store(links: &mut [u32], k: usize, l: Link)
-    requires { ⌜ 9 * k + 9 ≤ length (now links) ⌝ }
+    requires { ⌜ 10 * k + 10 ≤ length (now links) ⌝ }
     requires { ⌜ LinkFits 64 l ⌝ }
-    ensures { λ _. ⌜ now (links .exit) ≡ sets (now (links .entry)) (9 * k) (linkNumbers (l ∷ [])) ⌝ }
+    ensures { λ _. ⌜ now (links .exit) ≡ sets (now (links .entry)) (10 * k) (linkNumbers (l ∷ [])) ⌝ }
 {
+    let at = WIDTH * k;
     let ticks = l.ticks;
     let events = l.events;
     let numbers: [u32; WIDTH] = [
@@ -113,7 +129,8 @@ pub fn store(links: &mut [u32], k: usize, l: Link)
         ticks.1 as u32,
         events.0 as u32,
         events.1 as u32,
-        l.buffer as u32,
+        l.over,
+        l.kind,
     ];
-    store::store_numbers(links, WIDTH * k, &numbers);
+    store::store_numbers(links, at, &numbers);
 }

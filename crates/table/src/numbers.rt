@@ -10,11 +10,13 @@ pub fn wide(x: u32) -> u64
     x as u64
 }
 
-// A number of two's complement in four bytes: what it is above zero, or 0.
+// A number of two's complement in four bytes: what it is above zero, or 0. It is compared with what it would be below zero, and not with
+// 2147483648: the compiler would look at the highest byte for that, and load the four bytes one by one.
 pub fn forward_of(v: u64) -> u64
+    requires { ⌜ v < 2 ^ 32 ⌝ }
     ensures { λ r. ⌜ r ≡ forward v ⌝ }
 {
-    if v < 2147483648 { v } else { 0 }
+    if v < 4294967296 - v { v } else { 0 }
 }
 
 // What it is below zero, or 0.
@@ -22,5 +24,6 @@ pub fn back_of(v: u64) -> u64
     requires { ⌜ v < 2 ^ 32 ⌝ }
     ensures { λ r. ⌜ r ≡ back v ⌝ }
 {
-    if v < 2147483648 { 0 } else { 4294967296 - v }
+    let below = 4294967296 - v;
+    if v < below { 0 } else { below }
 }

@@ -2,7 +2,8 @@
 ghost use mathlib.Core.Path.{_≡_};
 ghost use Prim.Native.Nat.{_+_, _≤_, _<_};
 ghost use lib.ListN.{length};
-ghost use Rattle.specification.specs.Reading.{lengthFaulty, partFaulty, partsFaulty, rateFaulty, endsFaulty, ticksAt, eventsAt, amountFaulty, delaysFaulty, portOf, linkOf, portAt, linkAt, kindAt, recordAt};
+ghost use Rattle.specification.specs.Reading.{lengthFaulty, partFaulty, partsFaulty, rateFaulty, endsFaulty, ticksAt, eventsAt, amountFaulty, eventsFaulty, delaysFaulty, portOf, linkOf, portAt, linkAt, kindAt, recordAt};
+ghost use Rattle.table.specs.Kinds.{isOf, kindFault};
 use crate::numbers;
 use records::read::number_at;
 use specification::Before;
@@ -88,13 +89,26 @@ fn amount_faulty(most: u64, forward: u64, back: u64) -> bool
     most < back
 }
 
-fn delays_faulty(ticks: Ticks, events: Events) -> bool
-    ensures { λ r. ⌜ r ≡ delaysFaulty ticks events ⌝ }
+// A number of events divided by `over`.
+fn events_faulty(events: Events, over: u64) -> bool
+    ensures { λ r. ⌜ r ≡ eventsFaulty events over ⌝ }
+{
+    if over == 0 {
+        return true;
+    }
+    if limits::OVER < over {
+        return true;
+    }
+    amount_faulty(limits::EVENTS * over, events.0, events.1)
+}
+
+fn delays_faulty(ticks: Ticks, events: Events, over: u64) -> bool
+    ensures { λ r. ⌜ r ≡ delaysFaulty ticks events over ⌝ }
 {
     if amount_faulty(limits::TICKS, ticks.0, ticks.1) {
         return true;
     }
-    amount_faulty(limits::EVENTS, events.0, events.1)
+    events_faulty(events, over)
 }
 
 fn events_at(s: &[u8], at: usize) -> Events
@@ -114,9 +128,9 @@ fn port_of(s: &[u8], at: usize) -> Port
     Port { num, den }
 }
 
-fn link_of(s: &[u8], at: usize, ticks: Ticks, events: Events, buffer: bool) -> Link
+fn link_of(s: &[u8], at: usize, ticks: Ticks, events: Events, over: u32, kind: u32) -> Link
     requires { ⌜ at + 8 ≤ length (now s) ⌝ }
-    ensures { λ r. ⌜ r ≡ linkOf (now (s .entry)) at ticks events buffer ⌝ }
+    ensures { λ r. ⌜ r ≡ linkOf (now (s .entry)) at ticks events over kind ⌝ }
 {
     let from = number_at(s, at, 2) as usize;
     let to = number_at(s, at + 2, 2) as usize;
@@ -129,7 +143,8 @@ fn link_of(s: &[u8], at: usize, ticks: Ticks, events: Events, buffer: bool) -> L
         den,
         ticks,
         events,
-        buffer,
+        over,
+        kind,
     }
 }
 
@@ -153,10 +168,19 @@ fn read_port(s: &[u8], at: usize, n: usize, before: Before) -> Read
     Read::PortRecord(port_of(s, at + 4), at + 8)
 }
 
-// A connection or buffer with these events, at its place; next is the place behind it.
-fn read_link(s: &[u8], at: usize, before: Before, events: Events, buffer: bool, next: usize) -> Read
+// A connection or buffer with these events and their denominator, at its place; next is the place behind it. The denominator becomes a number
+// of 32 bits only here: given as one, the compiler would keep the record in memory.
+fn read_link(
+    s: &[u8],
+    at: usize,
+    before: Before,
+    events: Events,
+    over: u64,
+    kind: u32,
+    next: usize,
+) -> Read
     requires { ⌜ at + 16 ≤ length (now s) ⌝ }
-    ensures { λ r. ⌜ r ≡ linkAt (now (s .entry)) at before events buffer next ⌝ }
+    ensures { λ r. ⌜ r ≡ linkAt (now (s .entry)) at before events over kind next ⌝ }
 {
     if limits::LINKS <= before.links {
         return Read::Refused(7, at);
@@ -168,10 +192,34 @@ fn read_link(s: &[u8], at: usize, before: Before, events: Events, buffer: bool, 
         return Read::Refused(10, at);
     }
     let ticks = ticks_at(s, at + 12);
-    if delays_faulty(ticks, events) {
+    if delays_faulty(ticks, events, over) {
         return Read::Refused(11, at);
     }
-    Read::LinkRecord(link_of(s, at + 4, ticks, events, buffer), next)
+    Read::LinkRecord(link_of(s, at + 4, ticks, events, over as u32, kind), next)
+}
+
+// Whether a record has this length and this kind. The length is looked at first: comparing four kinds in a row becomes a jump through a table,
+// which takes longer.
+fn is_of(n: usize, kind: u64, length: usize, of: u64) -> bool
+    ensures { λ r. ⌜ r ≡ isOf n kind length of ⌝ }
+{
+    if n != length {
+        return false;
+    }
+    kind == of
+}
+
+// The number of a record that is no port and has not the length of its kind.
+fn kind_fault(kind: u64) -> u64
+    ensures { λ r. ⌜ r ≡ kindFault kind ⌝ }
+{
+    if kind < 2 {
+        return 3;
+    }
+    if 4 < kind {
+        return 3;
+    }
+    4
 }
 
 // The record of a kind, whose length n does not pass the end of the table.
@@ -182,19 +230,17 @@ fn read_kind(s: &[u8], at: usize, n: usize, kind: u64, before: Before) -> Read
     if kind == 1 {
         return read_port(s, at, n, before);
     }
-    if kind == 2 {
-        if n != 18 {
-            return Read::Refused(4, at);
-        }
-        return read_link(s, at, before, events_at(s, at + 16), false, at + 20);
+    if is_of(n, kind, 18, 2) {
+        return read_link(s, at, before, events_at(s, at + 16), 1, 2, at + 20);
     }
-    if kind == 3 {
-        if n != 14 {
-            return Read::Refused(4, at);
-        }
-        return read_link(s, at, before, Events(0, 0), true, at + 16);
+    if is_of(n, kind, 14, 3) {
+        return read_link(s, at, before, Events(0, 0), 1, 3, at + 16);
     }
-    Read::Refused(3, at)
+    if is_of(n, kind, 22, 4) {
+        let over = number_at(s, at + 20, 4);
+        return read_link(s, at, before, events_at(s, at + 16), over, 4, at + 24);
+    }
+    Read::Refused(kind_fault(kind), at)
 }
 
 // The record at a place, tried for 2 to 11 in order.

@@ -5,3 +5,5 @@ pub mod WeightLaws
 pub mod AgreeLaws
 pub mod Labels
 pub mod Passes
+pub mod Scaling
+pub mod WholeLaws

@@ -73,7 +73,7 @@ joined-proportion {t} {w} {v} {p} {q} h k formed j =
 -- ---- the smallest weights
 module _ {t : Table} {w : ℕ → ℕ} (formed : WellFormed t) (prop : Proportional t w) where
   -- v p / w p in lowest terms is x / y; y divides the weight of every port joined to p
-  denominator-divides : {v : ℕ → ℕ} (p q : ℕ) → Proportional t v → IsPort t p → Joined t p q
+  pub denominator-divides : {v : ℕ → ℕ} (p q : ℕ) → Proportional t v → IsPort t p → Joined t p q
       → Divides (lowestTerms (v p) (w p) .den) (w q)
   denominator-divides {v} p q k i j =
       let low = lowest-is (v p) (w p) (prop .positive p i) in

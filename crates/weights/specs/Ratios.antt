@@ -2,6 +2,7 @@
 use Prim.Native.Nat.{ℕ, _+_, _*_, _≤_, _<_}
 use lib.ListN.{getD}
 use mathlib.Core.Path.{_≡_}
+use mathlib.Core.Bool.{Bool, cond}
 use mathlib.Core.List.{List}
 use Rattle.specification.specs.Table.{Table}
 use Rattle.specification.specs.Ratios.{Overweight, DisagreeingLoop}
@@ -29,6 +30,10 @@ abbrev pub AgreementHolds : Table → Ratios → (numbers numbers′ : List ℕ)
 AgreementHolds t r numbers numbers′ Agreeing = HasWeights t (r .weights) × (numbers′ ≡ numbers)
 AgreementHolds t r numbers numbers′ (Disagreeing steps) = LoopNumbers t numbers′ steps
 AgreementHolds t r numbers numbers′ OverLimit = Overweight t × (numbers′ ≡ numbers)
+
+-- what ratios that agree come to, by whether some weight passes 10,000
+unfoldable pub agreementOf : Bool → Agreement
+agreementOf passes = cond passes OverLimit Agreeing
 
 pub record IsRatios (t : Table) (r : Ratios) (numbers numbers′ : List ℕ) : Type 0 where
   pub components : Components t (r .labels)

@@ -6,8 +6,9 @@ ghost use mathlib.Core.Path.{_≡_};
 ghost use lib.ListN.{length};
 ghost use Rattle.ways.specs.Labels.{Components};
 ghost use Rattle.forest.specs.PortRows.{PartsAtMost};
-ghost use Rattle.weights.specs.Ratios.{numberOf, IsRatios};
+ghost use Rattle.weights.specs.Ratios.{numberOf, agreementOf, IsRatios};
 use crate::weights;
+use crate::whole;
 use exponents::divisors;
 use exponents::primes;
 use forest::agreement;
@@ -53,9 +54,10 @@ pub fn ratios_of(ports: &[u32], links: &[u32], numbers: &mut [u64]) -> Ratios
     let labels = components::components(ports, links);
     let most = parts::greatest_part(ports, links);
     if most == 0 {
-        let weights = weights::ones(ports::count(ports));
+        let mut weights = weights::ones(ports::count(ports));
+        let passes = whole::make_whole(ports, links, &labels, &mut weights);
         return Ratios {
-            agreement: Agreement::Agreeing,
+            agreement: agreement_of(passes),
             labels,
             weights,
         };
@@ -103,18 +105,28 @@ fn by_rows(
         };
     }
     let w = weights::weigh(ports, links, &labels, &rows, most);
-    let weights = w.weights;
+    let mut weights = w.weights;
     if w.within {
-        Ratios {
-            agreement: Agreement::Agreeing,
+        let passes = whole::make_whole(ports, links, &labels, &mut weights);
+        return Ratios {
+            agreement: agreement_of(passes),
             labels,
             weights,
-        }
-    } else {
-        Ratios {
-            agreement: Agreement::OverLimit,
-            labels,
-            weights,
-        }
+        };
     }
+    Ratios {
+        agreement: Agreement::OverLimit,
+        labels,
+        weights,
+    }
+}
+
+// What ratios that agree come to, by whether some weight passes 10,000.
+fn agreement_of(passes: bool) -> Agreement
+    ensures { λ r. ⌜ r ≡ agreementOf passes ⌝ }
+{
+    if passes {
+        return Agreement::OverLimit;
+    }
+    Agreement::Agreeing
 }

@@ -1,10 +1,10 @@
-// The weights of a table's ports, from rows that fit its links.
+// Document 01's weights of a table's ports, from rows that fit its links.
 ghost use Prim.Native.Nat.{_≤_};
 ghost use lib.ListN.{length};
 ghost use Rattle.table.specs.Slices.{portsOf, tableOf};
 ghost use Rattle.forest.specs.PortRows.{RowsUpTo};
 ghost use Rattle.weights.specs.LeastRows.{LabelledRows, LeastRows};
-ghost use Rattle.weights.specs.Weighed.{Weighing, Ones, IsWeighed};
+ghost use Rattle.weights.specs.Weighed.{Weighing, Ones, IsBaseWeighed};
 use exponents::primes;
 use exponents::product;
 use exponents::row;
@@ -28,7 +28,7 @@ pub fn weigh(
 ) -> Weighed
     requires { ⌜ Weighing (tableOf (now ports) (now links)) (now labels) (now rows) ⌝ }
     requires { ⌜ RowsUpTo (now rows) most ⌝ }
-    ensures { λ r. ⌜ IsWeighed (tableOf (now (ports .entry)) (now (links .entry))) r ⌝ }
+    ensures { λ r. ⌜ IsBaseWeighed (tableOf (now (ports .entry)) (now (links .entry))) r ⌝ }
 {
     let count = ports::count(ports);
     let least = least_rows(ports, links, labels, rows);

@@ -1,29 +1,35 @@
--- What is written of a link, by its kind.
+-- The record of a link by its kind: the room that it takes, and that it is written.
 use Prim.Native.Nat.{ℕ, _≤_}
-use mathlib.Core.Path.{_≡_, ap, sym, subst}
-use mathlib.Core.Bool.{Bool, true, false, cond}
-use mathlib.Core.List.{List, _++_}
+use mathlib.Core.Path.{_≡_, ap}
+use mathlib.Core.Logic.{_≢_}
+use mathlib.Core.List.{List}
 use native.Mathlib.Omega.{arith}
 use lib.ListN.{length}
 use Rattle.specification.specs.Bytes.{bytes, encode, Written}
-use Rattle.specification.specs.Encoding.{signedWord, linkFields, encodeLink}
-use Rattle.encoding.specs.EncodingLaws.{link-length}
+use Rattle.specification.specs.Encoding.{linkFields, connectionFields, encodeLink}
+use Rattle.encoding.specs.EncodingLaws.{bufferBytes, fractionBytes, connectionBytes, buffer-is, fraction-is, connection-is}
 use Rattle.specification.specs.declared.Link.{Link}
 
-abbrev asKind : Link → Bool → List ℕ
-asKind l buffer = cond buffer (encode 3 (linkFields l)) (encode 2 (linkFields l ++ bytes 4 (signedWord (l .events .0) (l .events .1))))
-
 module _ (l : Link) where
-  pub buffer-room : {room : ℕ} → l .buffer ≡ true → length (encodeLink l) ≤ room → 16 ≤ room
-  buffer-room e h = omega (arith, link-length l, ap {B = ℕ} (λ (b : Bool). cond b 16 20) e)
+  module _ {room : ℕ} (h : length (encodeLink l) ≤ room) where
+    pub buffer-room : l .kind ≡ 3 → 16 ≤ room
+    unfolding linkFields encode bytes
+    buffer-room e = omega (arith, h, ap length (buffer-is l e))
 
-  pub connection-room : {room : ℕ} → l .buffer ≡ false → length (encodeLink l) ≤ room → 20 ≤ room
-  connection-room e h = omega (arith, link-length l, ap {B = ℕ} (λ (b : Bool). cond b 16 20) e)
+    pub fraction-room : l .kind ≡ 4 → 24 ≤ room
+    unfolding connectionFields linkFields encode bytes
+    fraction-room e = omega (arith, h, ap length (fraction-is l e))
 
-  pub buffer-written : {ys ys′ : List ℕ} {n : ℕ} → l .buffer ≡ true → Written (asKind l true) ys ys′ n → Written (encodeLink l) ys ys′ n
-  unfolding encodeLink
-  buffer-written {ys} {ys′} {n} e w = subst (λ (b : Bool). Written (asKind l b) ys ys′ n) (sym e) w
+    pub connection-room : l .kind ≢ 3 → l .kind ≢ 4 → 20 ≤ room
+    unfolding connectionFields linkFields encode bytes
+    connection-room d e = omega (arith, h, ap length (connection-is l d e))
 
-  pub connection-written : {ys ys′ : List ℕ} {n : ℕ} → l .buffer ≡ false → Written (asKind l false) ys ys′ n → Written (encodeLink l) ys ys′ n
-  unfolding encodeLink
-  connection-written {ys} {ys′} {n} e w = subst (λ (b : Bool). Written (asKind l b) ys ys′ n) (sym e) w
+  module _ {ys ys′ : List ℕ} {n : ℕ} where
+    pub buffer-written : l .kind ≡ 3 → Written (bufferBytes l) ys ys′ n → Written (encodeLink l) ys ys′ n
+    buffer-written e w = rw (buffer-is l e) w
+
+    pub fraction-written : l .kind ≡ 4 → Written (fractionBytes l) ys ys′ n → Written (encodeLink l) ys ys′ n
+    fraction-written e w = rw (fraction-is l e) w
+
+    pub connection-written : l .kind ≢ 3 → l .kind ≢ 4 → Written (connectionBytes l) ys ys′ n → Written (encodeLink l) ys ys′ n
+    connection-written d e w = rw (connection-is l d e) w

@@ -6,7 +6,7 @@ use mathlib.Core.List.{List, [], _∷_}
 use native.Mathlib.Omega.{arith}
 use lib.ListN.{getD, length, set}
 use Rattle.table.specs.WellFormed.{WellFormed}
-use Rattle.specification.specs.Table.{Table, portCount, linkCount, link, from}
+use Rattle.specification.specs.Table.{Table, portCount, linkCount, link, isBuffer, from}
 use Rattle.graph.specs.Owners.{ownerOf, ownersOf}
 use Rattle.graph.proofs.connections.Filling.{Filling, filling-on}
 
@@ -17,7 +17,7 @@ module _ {t : Table} {k u : ℕ} (f : WellFormed t) (h : k < linkCount t) (sende
   pub owner-on : (labels : List ℕ) {owners₀ owners : List ℕ} {none owner : ℕ} {b : Bool} → Filling (ownersOf t labels) 1 (linkCount t) owners₀ owners k k
       → linkCount t ≤ length owners₀
       → none ≡ portCount t
-      → b ≡ link t k .buffer
+      → b ≡ isBuffer (link t k)
       → owner ≡ ownerOf none (getD labels u 0) b
       → Filling (ownersOf t labels) 1 (linkCount t) owners₀ (set owners k owner) (k + 1) (k + 1)
   unfolding ownersOf

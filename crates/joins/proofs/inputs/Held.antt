@@ -52,7 +52,7 @@ module _ {t : Table} {left : ℕ} {ports links : List ℕ} {p m : ℕ} (h : Held
         few-ports = omega (arith, f .port-count, fits .few-ports (h .few-ports));
         few-links = omega (arith, f .link-count, fits .few-links (h .few-links));
         port-room = omega (arith, h .port-room, f .port-count, bytes, ap length (f .ports-are), length-sets ports (2 * p) (portNumbers (u .ports)));
-        link-room = omega (arith, h .link-room, f .link-count, bytes, ap length (f .links-are), length-sets links (9 * m) (linkNumbers up));
+        link-room = omega (arith, h .link-room, f .link-count, bytes, ap length (f .links-are), length-sets links (10 * m) (linkNumbers up));
         front = front-on f (h .front);
       }
 
@@ -143,7 +143,7 @@ module _ {first second ports links ports₁ links₁ ports₂ links₂ : List �
 module _ {first second added ports links : List ℕ} {r : Inputs} where
   inputs-read : {j : Join} → joinOf first second added ≡ j → r .number ≡ j .number → r .place ≡ j .place → r .input ≡ j .input
       → 2 * r .«port_count» ≤ length ports
-      → 9 * r .«link_count» ≤ length links
+      → 10 * r .«link_count» ≤ length links
       → (r .number ≡ 0 → Front (joinedTable first second added) ports links (r .«port_count») (r .«link_count»))
       → InputsRead first second added ports links r
   inputs-read e number place input port-room link-room joined =
@@ -162,7 +162,7 @@ module _ {first second added ports links : List ℕ} {r : Inputs} where
       port-room : 2 * r .«port_count» ≤ length ports
       port-room = omega (arith, n .held .few-ports, n .held .port-room)
 
-      link-room : 9 * r .«link_count» ≤ length links
+      link-room : 10 * r .«link_count» ≤ length links
       link-room = omega (arith, n .held .few-links, n .held .link-room)
 
       decided : Dec (r .number ≡ 0) → InputsRead first second added ports links r

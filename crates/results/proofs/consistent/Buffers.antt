@@ -7,7 +7,7 @@ use native.Mathlib.Numerals.{add-one}
 use native.Mathlib.Omega.{arith}
 use lib.ListN.{length}
 use Rattle.specification.specs.Bytes.{bytes, Written, encode, bufferAnswer}
-use Rattle.specification.specs.Table.{Table, linkCount, link}
+use Rattle.specification.specs.Table.{Table, linkCount, link, isBuffer}
 use Rattle.specification.specs.declared.Link.{Link}
 use Rattle.specification.specs.Answers.{bufferRecords}
 use Rattle.results.specs.Kept.{sizeAt, timingOf}
@@ -29,7 +29,7 @@ module _ {t : Table} {weights kept ys₀ : List ℕ} where
   module _ {ys : List ℕ} {at k : ℕ} (f : BuffersWritten t weights kept ys₀ ys at k) (l : k < linkCount t) where
     pub buffers-on : {part : List ℕ} {d m : ℕ} {b : Bool} {x : Link}
         → 14 * linkCount t ≤ length ys₀
-        → b ≡ link t k .buffer
+        → b ≡ isBuffer (link t k)
         → b ≡ true
         → x ≡ link t k
         → d ≡ sizeAt x weights kept
@@ -41,7 +41,7 @@ module _ {t : Table} {weights kept ys₀ : List ℕ} where
         let fewest = size ∙ ap (λ (y : Link). sizeAt y weights kept) same in
         record { so-far = rw (add-one k, is, ← fewest) (rw (add-one k) at (appended-on (f .so-far) l fits (buffer-length _ _) v)) }
 
-    pub buffers-off : {b : Bool} → b ≡ link t k .buffer → b ≡ false → BuffersWritten t weights kept ys₀ ys at (k + 1)
+    pub buffers-off : {b : Bool} → b ≡ isBuffer (link t k) → b ≡ false → BuffersWritten t weights kept ys₀ ys at (k + 1)
     unfolding bufferRecords
     buffers-off buffer told = let not = sym buffer ∙ told in record { so-far = rw (add-one k, not, append-nil) (rw (add-one k) at (appended-off (f .so-far) l)) }
 

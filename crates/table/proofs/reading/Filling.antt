@@ -48,17 +48,17 @@ module _ {b : Before} {ports links : List ℕ} where
         }
 
     pub filled-link : (l : Link)
-        → Filled (withLink b) r ports (sets links (9 * b .links) (linkNumbers (moved (b .ports - b .named) l ∷ []))) ports′ links′ c
+        → Filled (withLink b) r ports (sets links (10 * b .links) (linkNumbers (moved (b .ports - b .named) l ∷ []))) ports′ links′ c
         → Filled b (addLink l r) ports links ports′ links′ c
     filled-link l f =
-        let on : 9 * (b .links + 1) ≡ suc (suc (suc (suc (suc (suc (suc (suc (suc (9 * b .links))))))))) = omega arith in
+        let on : 10 * (b .links + 1) ≡ suc (suc (suc (suc (suc (suc (suc (suc (suc (suc (10 * b .links)))))))))) = omega arith in
         record {
           number = f .number;
           place = f .place;
           port-count = f .port-count;
           link-count = omega (arith, f .link-count);
           port-room = f .port-room;
-          link-room = omega (arith, f .link-room, length-sets links (9 * b .links) (linkNumbers (moved (b .ports - b .named) l ∷ [])));
+          link-room = omega (arith, f .link-room, length-sets links (10 * b .links) (linkNumbers (moved (b .ports - b .named) l ∷ [])));
           ports-are = f .ports-are;
           links-are = rw on at (f .links-are);
         }

@@ -73,7 +73,7 @@ module _ {s ports₀ links₀ : List ℕ} {by : ℕ} {b₀ : Before} {ports link
   port-fits w = (omega (arith, w .going .room, w .told), w .told .fits)
 
   pub link-fits : {l l′ : Link} {next : ℕ} → Turn s ports₀ links₀ by b₀ ports links b at (LinkRecord l next) → l′ ≡ moved by l
-      → (9 * b .links + 9 ≤ length links) × LinkFits mostPorts l′
+      → (10 * b .links + 10 ≤ length links) × LinkFits mostPorts l′
   link-fits {l} w d =
       let f = w .told .fits in
       let g = w .going in
@@ -108,13 +108,13 @@ module _ {s ports₀ links₀ : List ℕ} {by : ℕ} {b₀ : Before} {ports link
 
   pub link-read : {l l′ : Link} {next : ℕ} {links′ : List ℕ} {b′ : Before} → Turn s ports₀ links₀ by b₀ ports links b at (LinkRecord l next)
       → l′ ≡ moved by l
-      → links′ ≡ sets links (9 * b .links) (linkNumbers (l′ ∷ []))
+      → links′ ≡ sets links (10 * b .links) (linkNumbers (l′ ∷ []))
       → b′ ≡ withLink b
       → Going s ports₀ links₀ by b₀ ports links′ b′ next
   link-read {l} w d stored e =
       let g = w .going in
       let left : g .left ≡ suc (g .left - 1) = some-left (g .left) (length s) at (g .enough) (omega (arith, w .told .onward)) in
-      let long = length-sets links (9 * b .links) (linkNumbers (moved (b .ports - b .named) l ∷ [])) in
+      let long = length-sets links (10 * b .links) (linkNumbers (moved (b .ports - b .named) l ∷ [])) in
       rw (stored, e, d, g .apart) (record {
         left = g .left - 1;
         on = λ ps ls c f. w .then ps ls c (rw left (filled-link l f));

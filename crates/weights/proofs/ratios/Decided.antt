@@ -1,6 +1,7 @@
 -- From the forest, the first conflict and the weights to the outcome.
 use Prim.Native.Nat.{ℕ, _≤_, _<_}
-use mathlib.Core.Path.{_≡_}
+use mathlib.Core.Path.{_≡_, refl}
+use mathlib.Core.Bool.{Bool, true, false}
 use mathlib.Core.List.{List, map}
 use native.Mathlib.Omega.{arith}
 use lib.ListN.{length}
@@ -13,8 +14,17 @@ use Rattle.forest.specs.PortRows.{Fits, Spanned}
 use Rattle.forest.specs.Agreement.{FirstConflict}
 use Rattle.forest.specs.Conflicting.{loop-unequal}
 use Rattle.forest.specs.Loop.{stepsFrom, Closing, Closed}
-use Rattle.weights.specs.Weighed.{Weighing}
-use Rattle.weights.specs.Ratios.{LoopNumbers}
+use Rattle.weights.specs.Weighed.{Weighing, IsWeighed}
+use Rattle.weights.specs.Ratios.{LoopNumbers, agreementOf, IsRatios}
+use Rattle.weights.specs.declared.ratios.Agreement.{Agreement}
+
+-- ratios that agree, by their weights
+pub agreed : {t : Table} {labels weights numbers : List ℕ} {a : Agreement} (passes : Bool) → Components t labels → IsWeighed t weights passes
+    → a ≡ agreementOf passes
+    → IsRatios t (record { agreement = a; labels = labels; weights = weights }) numbers numbers
+unfolding agreementOf
+agreed true components w e = rw e (record { components = components; outcome = (w .over refl, refl) })
+agreed false components w e = rw e (record { components = components; outcome = (w .within refl, refl) })
 
 module _ {t : Table} {labels reach via : List ℕ} {rows : List (List ℕ)} {k : ℕ} (formed : WellFormed t) (components : Components t labels)
     (spanned : Spanned t labels reach via rows) (first : FirstConflict t rows k) where

@@ -6,10 +6,10 @@ use native.Mathlib.Omega.{arith}
 use Rattle.table.specs.WellFormed.{WellFormed}
 use Rattle.specification.specs.Table.{Table, portCount, from, to}
 use Rattle.forest.specs.Parts.{greatestPart, zero-ones}
-use Rattle.weights.specs.Weighed.{Ones, HasWeights}
+use Rattle.weights.specs.Weighed.{Ones, HasBaseWeights}
 
 module _ {t : Table} (formed : WellFormed t) (none : greatestPart t ≡ 0) where
-  pub unit-weights : {weights : List ℕ} → Ones (portCount t) weights → HasWeights t weights
+  pub unit-weights : {weights : List ℕ} → Ones (portCount t) weights → HasBaseWeights t weights
   unit-weights {weights} o = record {
     long = o .long;
     are = record {

@@ -14,7 +14,7 @@ use Rattle.rounds.specs.StartsLaws.{zeros-at}
 use Rattle.specification.specs.Table.{Table, portCount}
 use Rattle.forest.specs.PortRows.{rowOf, RowsUpTo}
 use Rattle.weights.specs.LeastRows.{LabelledRows, LeastRows}
-use Rattle.weights.specs.Weighed.{Weighing, Ones, IsWeighed}
+use Rattle.weights.specs.Weighed.{Weighing, Ones, IsBaseWeighed}
 use Rattle.specification.specs.Ratios.{mostWeight}
 use Rattle.weights.proofs.weights.Difference.{excess-difference}
 use Rattle.weights.proofs.weights.Lessening.{label-small}
@@ -89,7 +89,7 @@ module _ {t : Table} {labels : List ℕ} {rows least : List (List ℕ)} where
         rest = λ q k. getD-set-other weights p q x 0 (λ e. omega arith) ∙ s .rest q (omega arith);
       }
 
-      pub weighted-over : (weights : List ℕ) → mostWeight < x → IsWeighed t (record { within = false; weights = weights })
+      pub weighted-over : (weights : List ℕ) → mostWeight < x → IsBaseWeighed t (record { within = false; weights = weights })
       weighted-over weights b = record {
         within = λ e. absurd (true≢false (sym e));
         passes = λ e. record {
@@ -102,7 +102,7 @@ module _ {t : Table} {labels : List ℕ} {rows least : List (List ℕ)} where
       }
 
     pub weighted-all : {p : ℕ} {weights : List ℕ} → Weighted t labels rows least p weights → portCount t ≤ p
-        → IsWeighed t (record { within = true; weights = weights })
+        → IsBaseWeighed t (record { within = true; weights = weights })
     weighted-all {p} {weights} s h = record {
       within = λ e. record {
         long = s .long;

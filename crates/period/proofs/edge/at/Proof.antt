@@ -1,4 +1,4 @@
--- The numbers of the connection are read, and those of its events fit when they are weighed.
+-- The numbers of the connection are read, and those of its events fit when they are weighed and divided.
 use native.Mathlib.Omega.{arith}
 use Rattle.period.proofs.edge.Read.{read-sender, read-forward, read-back, read-edge}
 use borrow.Author.Needs.{needs}
@@ -14,33 +14,41 @@ shared-slice-read-at c = search needs
 at-requires : tie.Need-at-requires
 at-requires c κs = search needs
 
+cast-over : tie.Need-cast-over
+cast-over c =
+    let at-at = c .before .before .before in
+    let given = at-at .before .before .before .before .pre in
+    omega (arith, read-forward given (at-at .at .ensures) .over-most)
+
 mul-weight : tie.Need-mul-weight
 mul-weight c =
-    let entry = c .before .before .before .before .before .before in
-    omega (arith, read-sender (entry .pre) (c .before .before .at .ensures))
+    let at-at = c .before .before .before in
+    let given = at-at .before .before .before .before .pre in
+    omega (arith, read-sender given (at-at .at .ensures))
 
 element-copy-out-weight : tie.Need-element-copy-out-weight
 element-copy-out-weight c =
-    let entry = c .before .before .before .before .before .before in
-    read-sender (entry .pre) (c .before .before .at .ensures)
+    let at-at = c .before .before .before in
+    let given = at-at .before .before .before .before .pre in
+    read-sender given (at-at .at .ensures)
 
-mul-t18 : tie.Need-mul-t18
-mul-t18 c =
+weighed-requires : tie.Need-weighed-requires
+weighed-requires c κs =
     let at-at = c .before .before .before .before in
-    let entry = at-at .before .before .before .before in
-    omega (arith, read-forward (entry .pre) (at-at .at .ensures))
+    let given = at-at .before .before .before .before .pre in
+    read-forward given (at-at .at .ensures)
 
-mul-t19 : tie.Need-mul-t19
-mul-t19 c =
+weighed-requires-2 : tie.Need-weighed-requires-2
+weighed-requires-2 c κs =
     let at-at = c .before .before .before .before .before in
-    let entry = at-at .before .before .before .before in
-    omega (arith, read-back (entry .pre) (at-at .at .ensures))
+    let given = at-at .before .before .before .before .pre in
+    read-back given (at-at .at .ensures)
 
 returns : tie.Need-returns
 returns c =
-    let at-at = c .before .before .before .before .before in
-    let entry = at-at .before .before .before .before in
-    read-edge (entry .pre) (at-at .at .ensures)
+    let at-at = c .before .before .before .before .before .before in
+    let given = at-at .before .before .before .before .pre in
+    read-edge given (at-at .at .ensures) (c .before .weighed .ensures) (c .weighed2 .ensures)
 
 pub at-spec : {M : Type 1} → statement M
 at-spec =
@@ -49,8 +57,9 @@ at-spec =
     mul-at
     shared-slice-read-at
     at-requires
+    cast-over
     mul-weight
     element-copy-out-weight
-    mul-t18
-    mul-t19
+    weighed-requires
+    weighed-requires-2
     returns)

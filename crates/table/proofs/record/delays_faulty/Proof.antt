@@ -11,12 +11,12 @@ returns : tie.Need-returns
 unfolding delaysFaulty
 returns c = rw (← c .before .amount-faulty .ensures, c .if1 .taken)
 
-amount-faulty-requires-2 : tie.Need-amount-faulty-requires-2
-amount-faulty-requires-2 c κs = search needs
+events-faulty-requires : tie.Need-events-faulty-requires
+events-faulty-requires c κs = search needs
 
 returns-2 : tie.Need-returns-2
 unfolding delaysFaulty
-returns-2 c = rw (← c .before .before .amount-faulty .ensures, c .before .if1 .left, ← c .amount-faulty2 .ensures)
+returns-2 c = rw (← c .before .before .amount-faulty .ensures, c .before .if1 .left, ← c .events-faulty .ensures)
 
 pub delays-faulty-spec : {M : Type 1} → statement M
-delays-faulty-spec = tie.close (tie.spec amount-faulty-requires returns amount-faulty-requires-2 returns-2)
+delays-faulty-spec = tie.close (tie.spec amount-faulty-requires returns events-faulty-requires returns-2)

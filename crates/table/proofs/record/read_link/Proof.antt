@@ -9,22 +9,24 @@ use Rattle.specification.specs.declared.Events.{Events}
 use Rattle.specification.specs.declared.Before.{Before}
 use Rattle.specification.specs.declared.Read.{Read}
 use Rattle.specification.specs.declared.Read.the-variants.{LinkRecord}
+use Rattle.table.specs.RecordLaws.{delays-over}
+use native.Mathlib.Omega.{arith}
 use borrow.Author.Tests.{le-leb, lt-leb}
 use borrow.Author.Needs.{needs}
 use Rattle.table.proofs.record.read_link.Statement.{statement}
 use Rattle.table.proofs.record.read_link.Tie as tie
 
 -- what is left where there is room and neither the ends nor the ratio have a fault
-past-parts : (s : List ℕ) (at : ℕ) (before : Before) (events : Events) (buffer : Bool) (next : ℕ) {ends parts : Bool} {r : Read}
+past-parts : (s : List ℕ) (at : ℕ) (before : Before) (events : Events) (over kind next : ℕ) {ends parts : Bool} {r : Read}
     → before .links < mostLinks
     → ends ≡ endsFaulty s (at + 4) (before .named)
     → ends ≡ false
     → parts ≡ partsFaulty s (at + 8)
     → parts ≡ false
-    → r ≡ refuse at 11 (delaysFaulty (ticksAt s (at + 12)) events) (LinkRecord (linkOf s (at + 4) (ticksAt s (at + 12)) events buffer) next)
-    → r ≡ linkAt s at before events buffer next
+    → r ≡ refuse at 11 (delaysFaulty (ticksAt s (at + 12)) events over) (LinkRecord (linkOf s (at + 4) (ticksAt s (at + 12)) events over kind) next)
+    → r ≡ linkAt s at before events over kind next
 unfolding linkAt
-past-parts s at before events buffer next room e ends p parts is = rw (lt-leb mostLinks (before .links) room, ← e, ends, ← p, parts) is
+past-parts s at before events over kind next room e ends p parts is = rw (lt-leb mostLinks (before .links) room, ← e, ends, ← p, parts) is
 
 returns : tie.Need-returns
 unfolding linkAt
@@ -67,11 +69,14 @@ returns-4 c =
     let at-parts-faulty = at-if3 .before in
     let at-if2 = at-parts-faulty .before in
     let at-ends-faulty = at-if2 .before in
-    past-parts _ _ _ _ _ _ (at-ends-faulty .before .if1 .left) (at-ends-faulty .ends-faulty .ensures) (at-if2 .if2 .left) (at-parts-faulty .parts-faulty .ensures) (at-if3 .if3 .left)
+    past-parts _ _ _ _ _ _ _ (at-ends-faulty .before .if1 .left) (at-ends-faulty .ends-faulty .ensures) (at-if2 .if2 .left) (at-parts-faulty .parts-faulty .ensures) (at-if3 .if3 .left)
     (rw (← c .before .before .ticks-at .ensures, ← c .before .delays-faulty .ensures, c .if4 .taken))
 
 add-link-of : tie.Need-add-link-of
 add-link-of c = search needs
+
+cast-link-of : tie.Need-cast-link-of
+cast-link-of c = omega (arith, delays-over _ _ _ (c .before .delays-faulty .ensures) (c .if4 .left))
 
 link-of-requires : tie.Need-link-of-requires
 link-of-requires c κs = search needs
@@ -83,7 +88,7 @@ returns-5 c =
     let at-parts-faulty = at-if3 .before in
     let at-if2 = at-parts-faulty .before in
     let at-ends-faulty = at-if2 .before in
-    past-parts _ _ _ _ _ _ (at-ends-faulty .before .if1 .left) (at-ends-faulty .ends-faulty .ensures) (at-if2 .if2 .left) (at-parts-faulty .parts-faulty .ensures) (at-if3 .if3 .left)
+    past-parts _ _ _ _ _ _ _ (at-ends-faulty .before .if1 .left) (at-ends-faulty .ends-faulty .ensures) (at-if2 .if2 .left) (at-parts-faulty .parts-faulty .ensures) (at-if3 .if3 .left)
     (rw (← at-delays-faulty .before .ticks-at .ensures, ← at-delays-faulty .delays-faulty .ensures, c .before .if4 .left, c .link-of .ensures))
 
 pub read-link-spec : {M : Type 1} → statement M
@@ -102,5 +107,6 @@ read-link-spec =
     delays-faulty-requires
     returns-4
     add-link-of
+    cast-link-of
     link-of-requires
     returns-5)

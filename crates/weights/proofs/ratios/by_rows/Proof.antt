@@ -1,6 +1,7 @@
 -- By the first conflict and the weights.
 use mathlib.Core.Path.{refl}
-use Rattle.weights.proofs.ratios.Decided.{closing, loop-numbers, weighing}
+use Rattle.weights.proofs.ratios.Decided.{agreed, closing, loop-numbers, weighing}
+use Rattle.weights.proofs.whole.Conditions.{base-passing}
 use native.Mathlib.Omega.{arith}
 use borrow.Author.Needs.{needs}
 use Rattle.weights.proofs.ratios.by_rows.Statement.{statement}
@@ -67,15 +68,27 @@ weigh-requires c κs =
     let entry = at-spanned .before .before .before .before .before .before .before .before .before .before in
     (weighing (entry .pre .0) (entry .pre .1 .0) (at-spanned .spanned .ensures) (at-conflict .conflict .ensures) (omega arith), at-spanned .spanned .ensures .up-to _ (entry .pre .1 .1 .0))
 
+make-whole-requires : tie.Need-make-whole-requires
+make-whole-requires c κs =
+    let at-weigh = c .before .before .before .before in
+    let given = at-weigh .before .before .before .before .before .before .before .before .before .before .before .before .before .before .before .before .before .before .before .before .before .before .before .before .pre in
+    (given .0, (given .1 .0, at-weigh .weigh .ensures .within (c .before .before .if2 .taken)))
+
+agreement-of-requires : tie.Need-agreement-of-requires
+agreement-of-requires c κs = search needs
+
 returns-2 : tie.Need-returns-2
 returns-2 c =
-    let entry = c .before .before .before .before .before .before .before .before .before .before .before .before .before .before .before .before .before .before .before .before .before .before .before .before .before .before in
-    record { components = entry .pre .1 .0; outcome = (c .before .before .weigh .ensures .within (c .if2 .taken), refl) }
+    let given = c .before .before .before .before .before .before .before .before .before .before .before .before .before .before .before .before .before .before .before .before .before .before .before .before .before .before .before .before .before .before .pre in
+    agreed _ (given .1 .0) (c .before .make-whole .ensures) (c .agreement-of .ensures)
 
 returns-3 : tie.Need-returns-3
 returns-3 c =
-    let entry = c .before .before .before .before .before .before .before .before .before .before .before .before .before .before .before .before .before .before .before .before .before .before .before .before .before .before in
-    record { components = entry .pre .1 .0; outcome = (c .before .before .weigh .ensures .passes (c .if2 .left), refl) }
+    let given = c .before .before .before .before .before .before .before .before .before .before .before .before .before .before .before .before .before .before .before .before .before .before .before .before .before .before .pre in
+    record {
+      components = given .1 .0;
+      outcome = (base-passing (given .0) (given .1 .0) (c .before .before .weigh .ensures .passes (c .if2 .left)), refl);
+    }
 
 pub by-rows-spec : {M : Type 1} → statement M
 by-rows-spec =
@@ -94,5 +107,7 @@ by-rows-spec =
     same-length
     returns
     weigh-requires
+    make-whole-requires
+    agreement-of-requires
     returns-2
     returns-3)
