@@ -143,6 +143,15 @@ pub fn preview<M: Method>(first: &[u8], second: &[u8], added: &[u8], answer: &mu
     Joined { number, place: 0, input: 0, written }
 }
 
+/// The model of a consistent table, or what the analysis says of another.
+pub fn consistent<M: Method>(table: &[u8]) -> Result<Model, Fault> {
+    let model = read(table)?;
+    match decide::<M>(&model, &mut [0; LEAST_ANSWER]) {
+        (0, _) => Ok(model),
+        (number, _) => Err(Fault { number, place: 0 }),
+    }
+}
+
 /// The number of a model that was read without a fault, and the bytes written.
 fn decide<M: Method>(model: &Model, answer: &mut [u8]) -> (u64, usize) {
     if model.ports.is_empty() {

@@ -528,6 +528,66 @@ fn halves(random: &mut Random) -> [Model; 2] {
     [random_delays(random, ports, links), random_delays(random, most_ports - ports, most_links - links)]
 }
 
+/// A table, the port to hide, and the length of the out buffer.
+pub struct HideInput {
+    pub table: Vec<u8>,
+    pub port: u64,
+    pub room: usize,
+}
+
+/// Any model, mostly without what bars hiding; a port with connections on both sides, any other, or none of the table; and some tables faulty.
+pub fn random_hide(random: &mut Random) -> HideInput {
+    let mut model = if random.percent(5) { edge_model(random) } else { random_model(random) };
+    if random.percent(90) {
+        model.links.retain(|link| link.from != link.to && (link.events.is_some() || random.percent(10)));
+    }
+    let passed: Vec<usize> = model.links.iter().map(|link| link.to).filter(|&port| model.links.iter().any(|link| link.from == port)).collect();
+    let port = match random.below(20) {
+        0 => random.pick(&[model.ports.len() as u64, 64, 256, 65_536, 1 << 32, u64::MAX]),
+        1..=14 if !passed.is_empty() => random.pick(&passed) as u64,
+        _ => random.below(model.ports.len()) as u64,
+    };
+    let size = hidden_size(&model, port as usize);
+    let table = if random.percent(5) { damaged(random, model.table()) } else { model.table() };
+    let shorter = random.below(size + 1);
+    let room = random.pick(&[6_656, 6_656, 6_656, size, size, size + 1, size.saturating_sub(1), shorter]);
+    HideInput { table, port, room }
+}
+
+/// The length of the table without a port, if it can be hidden.
+fn hidden_size(model: &Model, port: usize) -> usize {
+    let into = model.links.iter().filter(|link| link.to == port).count();
+    let from = model.links.iter().filter(|link| link.from == port).count();
+    let kept = model.links.iter().filter(|link| link.from != port && link.to != port).cloned().collect();
+    Model { ports: model.ports[1..].to_vec(), links: kept }.table().len() + 24 * into * from
+}
+
+/// The hidings that are timed, each with its name and a word on what it is.
+pub fn hide_workloads() -> Vec<(&'static str, &'static str, HideInput)> {
+    let mut random = Random::new(65);
+    let mut full = Model::new(64, (1, 1));
+    for p in 1..64 {
+        full.links.push(connection(p - 1, p, 2, 0));
+    }
+    full.links.extend([connection(20, 32, 3, 0), connection(32, 50, 4, 0)]);
+    while full.links.len() < 256 {
+        let (p, q) = (random.below(64), random.below(64));
+        if p != 32 && q != 32 {
+            let events = if p < q { 0 } else { -random.within(10, 60) };
+            full.links.push(connection(p, q, random.within(1, 50), events));
+        }
+    }
+    let mut pairs = Model::new(3, (1, 1));
+    for ticks in 0..128 {
+        pairs.links.extend([connection(0, 1, ticks, 0), connection(1, 2, ticks, 0)]);
+    }
+    let named = |name, what, model: &Model, port| (name, what, HideInput { table: model.table(), port, room: 6_656 });
+    vec![
+        named("full table", "64 ports, 256 connections, of the hidden port two into it and two out of it", &full, 32),
+        named("many pairs", "3 ports, 128 connections into the hidden one and 128 out of it: 16,384 are tried", &pairs, 1),
+    ]
+}
+
 /// The join that is timed: tables of 32 ports and 128 connections each, which together are as large as a table may be; none added.
 pub fn join_workload() -> JoinInput {
     let mut random = Random::new(32);

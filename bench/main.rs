@@ -1,9 +1,10 @@
-//! Compares the proved analysis with two ordinary ones, and the proved join and its preview with ordinary ones: first that all answer the same,
-//! then how long they take.
+//! Compares the proved analysis with two ordinary ones, and the proved join, its preview and hiding with ordinary ones: first that all answer the
+//! same, then how long they take.
 
 mod analysis;
 mod answers;
 mod exponents;
+mod hide;
 mod in_place;
 mod inputs;
 mod join;
@@ -14,7 +15,7 @@ mod stack;
 mod validate;
 
 use analysis::Outcome;
-use inputs::JoinInput;
+use inputs::{HideInput, JoinInput};
 use join::Joined;
 use std::hint::black_box;
 use std::process::exit;
@@ -23,13 +24,16 @@ use validate::Shown;
 
 type Analyse = fn(&[u8], &mut [u8]) -> Outcome;
 type Join = fn(&[u8], &[u8], &[u8], &mut [u8]) -> Joined;
+type Hide = fn(&[u8], u64, &mut [u8]) -> Outcome;
 
 const SIDES: [(&str, Analyse); 3] =
     [("proved", proved::analyse), ("ordinary", ordinary::analyse), ("in place", in_place::analyse)];
 const JOIN_SIDES: [(&str, Join); 2] = [("proved", proved::join), ("ordinary", join::join)];
 const PREVIEW_SIDES: [(&str, Join); 2] = [("proved", proved::preview), ("ordinary", ordinary::preview)];
+const HIDE_SIDES: [(&str, Hide); 2] = [("proved", proved::hide), ("ordinary", ordinary::hide)];
 const COMPARED: usize = 100_000;
 const COMPARED_JOINS: usize = 50_000;
+const COMPARED_HIDES: usize = 50_000;
 /// The answer buffers of the compared previews, by turns.
 const PREVIEW_ROOMS: [usize; 4] = [0, 5_119, 5_120, 6_000];
 const SEED: u64 = 20_261_115;
@@ -43,10 +47,12 @@ fn main() {
     compare();
     compare_joins();
     compare_previews();
+    compare_hides();
     fit_stack();
     time();
     time_join();
     time_previews();
+    time_hides();
 }
 
 fn compare() {
@@ -134,18 +140,47 @@ fn count_joins(same: fn(&JoinInput, usize) -> Result<(u64, u64), String>, room: 
     counts
 }
 
-/// What one side of a join or of a preview came to: number, place, input and bytes written; and its buffer.
+fn compare_hides() {
+    let mut random = inputs::Random::new(SEED);
+    let mut counts = [0; 20];
+    for _ in 0..COMPARED_HIDES {
+        let given = inputs::random_hide(&mut random);
+        match same_hide(&given) {
+            Ok(number) => counts[number as usize] += 1,
+            Err(why) => {
+                println!("{why}\nport: {}\nbuffer: {} bytes\ntable: {}", given.port, given.room, hex(&given.table));
+                exit(1);
+            }
+        }
+    }
+    println!("compared: {COMPARED_HIDES} hidings, no difference in number, place, bytes written or any byte of the out buffer between proved and");
+    println!("ordinary; how often each number came");
+    // there is no answer buffer that could be short
+    for (number, &count) in counts.iter().enumerate().filter(|&(number, _)| number != 1) {
+        println!("  number {number:2}: {count:6}");
+        if count == 0 {
+            exit(1);
+        }
+    }
+}
+
+/// What one side of a join, of a preview or of hiding came to: number, place, input, which hiding has not, and bytes written; and its buffer.
 struct Called {
     side: &'static str,
     numbers: [u64; 4],
     buffer: Vec<u8>,
 }
 
-/// Calls a side with so many bytes of room. It must not change bytes past the written ones.
+/// Calls a side of a join or of a preview.
 fn call((side, join): (&'static str, Join), given: &JoinInput, room: usize) -> Result<Called, String> {
-    let pattern: Vec<u8> = (0..room).map(|i| (i * 31 + given.first.len()) as u8).collect();
+    call_into(side, room, |buffer| join(&given.first, &given.second, &given.added, buffer))
+}
+
+/// Calls a side with so many bytes of room. It must not change bytes past the written ones.
+fn call_into(side: &'static str, room: usize, called: impl FnOnce(&mut [u8]) -> Joined) -> Result<Called, String> {
+    let pattern: Vec<u8> = (0..room).map(|i| (i * 31 + room) as u8).collect();
     let mut buffer = pattern.clone();
-    let Joined { number, place, input, written } = join(&given.first, &given.second, &given.added, &mut buffer);
+    let Joined { number, place, input, written } = called(&mut buffer);
     if written > room || buffer[written..] != pattern[written..] {
         return Err(format!("number {number}: {side} changes bytes past the {written} written"));
     }
@@ -183,17 +218,31 @@ fn same_preview(given: &JoinInput, room: usize) -> Result<(u64, u64), String> {
     same_call(&proved, &ordinary?, matches!(proved.numbers[0], 13 | 15))
 }
 
+/// The number that both sides answer to a hiding, or how they differ.
+fn same_hide(HideInput { table, port, room }: &HideInput) -> Result<u64, String> {
+    let [proved, ordinary] = HIDE_SIDES.map(|(side, hide)| {
+        call_into(side, *room, |buffer| {
+            let Outcome { number, place, written } = hide(table, *port, buffer);
+            Joined { number, place, input: 0, written }
+        })
+    });
+    let (number, _) = same_call(&proved?, &ordinary?, false)?;
+    Ok(number)
+}
+
 fn fit_stack() {
     let mut random = inputs::Random::new(SEED);
     let workloads = inputs::workloads().into_iter().map(|workload| (workload.table, proved::ANSWER_BYTES));
     let inputs: Vec<_> = workloads.chain((0..COMPARED).map(|_| inputs::random_input(&mut random))).collect();
     let joins: Vec<_> = (0..COMPARED_JOINS).map(|_| inputs::random_join(&mut random)).chain([inputs::join_workload()]).collect();
-    let (count, join_count) = (inputs.len(), joins.len());
-    stack::answer_all(inputs, joins);
-    println!(
-        "stack: {count} inputs answered, {join_count} joins made and previewed by proved in a thread with a stack of {} bytes",
-        proved::STACK_BYTES
-    );
+    let hide_workloads = inputs::hide_workloads().into_iter().map(|(_, _, given)| given);
+    let hides: Vec<_> = hide_workloads.chain((0..COMPARED_HIDES).map(|_| inputs::random_hide(&mut random))).collect();
+    let (count, join_count, hide_count) = (inputs.len(), joins.len(), hides.len());
+    stack::answer_all(inputs);
+    stack::join_all(joins);
+    stack::hide_all(hides);
+    println!("stack: {count} inputs answered, {join_count} joins made and previewed, {hide_count} ports hidden by proved in threads with a stack");
+    println!("of {} bytes", proved::STACK_BYTES);
 }
 
 /// What one side answers.
@@ -393,6 +442,51 @@ fn time_preview(name: &str, given: &JoinInput) {
     let Measured { calls, samples, times: [proved, ordinary, (in_turn, _)] } = measured;
     print_sides(name, number, (calls, samples), proved, ordinary);
     println!("{in_turn:>16.0}{:>9.2}", proved.0 / in_turn);
+}
+
+fn time_hides() {
+    println!("\nhiding a port of a table into {} bytes, and the analysis of that table alone", proved::TABLE_BYTES);
+    println!("times in nanoseconds per call, sampled as above, all by turns");
+    print_heading("", "number");
+    println!();
+    let workloads = inputs::hide_workloads();
+    for (name, _, given) in &workloads {
+        time_hide(name, given);
+    }
+    println!("ordinary: the table is read and analysed by the same method as proved, kept records are copied");
+    println!("tables:");
+    for (name, what, HideInput { table, .. }) in &workloads {
+        println!("  {name:16}{what} ({} bytes)", table.len());
+    }
+}
+
+fn time_hide(name: &str, given: &HideInput) {
+    let HideInput { table, port, .. } = given;
+    let checked = same_hide(given).and_then(|number| Ok((number, same_answer(table, proved::ANSWER_BYTES)?.number)));
+    let (number, own_number) = checked.unwrap_or_else(|why| {
+        println!("{name}: {why}");
+        exit(1);
+    });
+    let mut out = [0; proved::TABLE_BYTES];
+    let mut answer = [0; proved::ANSWER_BYTES];
+    // proved and ordinary hide, and proved and ordinary analyse
+    let measured = measure(|side, calls| {
+        let (hide, analyse) = (HIDE_SIDES[side % 2].1, SIDES[side % 2].1);
+        if side < 2 {
+            return sample(calls, || {
+                black_box(hide(black_box(table), black_box(*port), black_box(&mut out)));
+            });
+        }
+        sample(calls, || {
+            black_box(analyse(black_box(table), black_box(&mut answer)));
+        })
+    });
+    let Measured { calls, samples, times: [hide, ordinary_hide, analysis, ordinary_analysis] } = measured;
+    print_sides(name, number, (calls, samples), hide, ordinary_hide);
+    println!();
+    print_sides("  analysis", own_number, (calls, samples), analysis, ordinary_analysis);
+    println!();
+    println!("  hiding / analysis, of the medians: proved {:.2}, ordinary {:.2}", hide.0 / analysis.0, ordinary_hide.0 / ordinary_analysis.0);
 }
 
 fn print_heading(name: &str, number: &str) {

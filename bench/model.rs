@@ -282,7 +282,7 @@ fn read_link(record: &[u8], ports: usize, is_buffer: bool) -> Result<Link, u64> 
     Ok(Link { from: from as u8, to: to as u8, num, den, is_buffer, ticks, events: 0, over: 1 })
 }
 
-fn gcd(x: u64, y: u64) -> u64 {
+pub fn gcd(x: u64, y: u64) -> u64 {
     if x == 0 {
         y
     } else {

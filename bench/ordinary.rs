@@ -3,6 +3,7 @@
 
 use crate::analysis::{self, Cycle, Method, Outcome, Period, Step, Unweighed, Weighed};
 use crate::exponents::{multiply, COLUMNS, PRIME, PRIMES};
+use crate::hide;
 use crate::join::Joined;
 use crate::model::{each, Components, Link, Model, MOST_PORTS, MOST_WEIGHT};
 
@@ -12,6 +13,10 @@ pub fn analyse(table: &[u8], answer: &mut [u8]) -> Outcome {
 
 pub fn preview(first: &[u8], second: &[u8], added: &[u8], answer: &mut [u8]) -> Joined {
     analysis::preview::<Rounds>(first, second, added, answer)
+}
+
+pub fn hide(table: &[u8], port: u64, out: &mut [u8]) -> Outcome {
+    hide::hide::<Rounds>(table, port, out)
 }
 
 /// Labels each port with the lowest port joined to it: passes over the links give both ends the smaller label, until one changes

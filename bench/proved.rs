@@ -1,4 +1,4 @@
-//! The proved side: the analysis, the join and the preview of the static library, through its Rust wrapper.
+//! The proved side: the analysis, the join, the preview and hiding of the static library, through its Rust wrapper.
 
 #[path = "../bindings/vundayre.rs"]
 mod vundayre;
@@ -20,6 +20,11 @@ pub fn join(first: &[u8], second: &[u8], added: &[u8], out: &mut [u8]) -> Joined
 pub fn preview(first: &[u8], second: &[u8], added: &[u8], answer: &mut [u8]) -> Joined {
     let preview = vundayre::preview(first, second, added, answer);
     Joined { number: preview.number, place: preview.place, input: preview.input, written: preview.records.len() }
+}
+
+pub fn hide(table: &[u8], port: u64, out: &mut [u8]) -> Outcome {
+    let hidden = vundayre::hide(table, port, out);
+    Outcome { number: hidden.number, place: hidden.place, written: hidden.table.len() }
 }
 
 /// What a preview does, by a join into this buffer and an analysis of what was written there.

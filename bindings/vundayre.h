@@ -13,19 +13,23 @@ extern "C" {
 /* An answer buffer of this many bytes suffices for every table; a shorter one is refused with number 1. */
 #define VUNDAYRE_ANSWER_BYTES 5120
 
-/* A thread with a stack of this many bytes can analyse every table and join and preview any two (the frames of the analysis take 93,200 of
-   them, those of the join 11,096, those of the preview 93,280, and none recurses; bench/run tries it out; it is not proved). */
+/* A thread with a stack of this many bytes can analyse every table, join and preview any two and hide any port (the frames of the analysis take
+   93,152 of them, those of the join 11,096, of the preview 93,216 and of hiding 93,184; none recurses; bench/run tries it out;
+   it is not proved). */
 #define VUNDAYRE_STACK_BYTES 98304
 
-/* A buffer of this many bytes suffices for every joined table; a shorter one may be refused with number 16. */
+/* A buffer of this many bytes suffices for every joined table and for every table with a hidden port; a shorter one may be refused with number
+   16. */
 #define VUNDAYRE_TABLE_BYTES 6656
 
 struct vundayre_outcome {
-    /* Document 01's number: 0 is consistent; 1 to 15, and 17, periods but no least, are refusals. */
+    /* Document 01's number. Of the analysis 0 is consistent; 1 to 15, and 17, periods but no least, are refusals. Of hiding 0 is hidden; 2 to 15
+       and 17 are what the analysis says of the table, and 18, the port cannot be hidden, 19, a resulting value leaves its range, 7, there would
+       be more than 256 connections and buffers, and 16, the out buffer is shorter than the resulting table, are tried after these. */
     uint64_t number;
-    /* Of 2 to 11 the byte of the table at which the faulty record begins, counted from 0; of every other number 0. */
+    /* Of 2 to 11 the byte of the table at which the faulty record begins, counted from 0; of every other number, and of hiding's own 7, 0. */
     size_t place;
-    /* How many bytes of the answer buffer were written, from its first byte on. */
+    /* How many bytes of the answer buffer, of hiding the out buffer, were written, from its first byte on. */
     size_t written;
 };
 
@@ -73,6 +77,17 @@ struct vundayre_joined vundayre_join(const uint8_t *first, size_t first_bytes, c
  */
 struct vundayre_joined vundayre_preview(const uint8_t *first, size_t first_bytes, const uint8_t *second, size_t second_bytes,
                                         const uint8_t *added, size_t added_bytes, uint8_t *answer, size_t answer_bytes);
+
+/*
+ * Hides a port of the table of table_bytes bytes, any bytes at all: writes the table without it, where each connection into the port and each out
+ * of it make one. Later ports are numbered one less. The other ports keep their periods and the starts that are possible for them, of any sign;
+ * the starts and sizes that the analysis returns may be others.
+ *
+ * A port that is no port of the table, touches a buffer, joins itself, or lacks a sender or a receiver is refused with number 18. A refusal
+ * writes nothing; 0 writes the table. Bytes of the out buffer past the written ones keep what they held. Neither pointer may be null, also where
+ * the length is 0, and the two buffers may not overlap. It keeps nothing between calls and may be called from several threads.
+ */
+struct vundayre_outcome vundayre_hide(const uint8_t *table, size_t table_bytes, uint64_t port, uint8_t *out, size_t out_bytes);
 
 #ifdef __cplusplus
 }

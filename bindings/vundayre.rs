@@ -7,11 +7,13 @@
 /// An answer buffer of this many bytes suffices for every table; a shorter one is refused with number 1.
 pub const ANSWER_BYTES: usize = 5120;
 
-/// A thread with a stack of this many bytes can analyse every table and join and preview any two (the frames of the analysis take 93,200 of
-/// them, those of the join 11,096, those of the preview 93,280, and none recurses; `bench/run` tries it out; it is not proved).
+/// A thread with a stack of this many bytes can analyse every table, join and preview any two and hide any port (the frames of the analysis take
+/// 93,152 of them, those of the join 11,096, of the preview 93,216 and of hiding 93,184; none recurses; `bench/run` tries it out;
+/// it is not proved).
 pub const STACK_BYTES: usize = 98_304;
 
-/// A buffer of this many bytes suffices for every joined table; a shorter one may be refused with number 16.
+/// A buffer of this many bytes suffices for every joined table and for every table with a hidden port; a shorter one may be refused with number
+/// 16.
 pub const TABLE_BYTES: usize = 6_656;
 
 #[repr(C)]
@@ -63,6 +65,17 @@ pub struct Preview<'a> {
     pub records: &'a [u8],
 }
 
+/// What came of hiding a port.
+pub struct Hidden<'a> {
+    /// 0 is hidden; 2 to 15 and 17 are what the analysis says of the table. After these are tried 18, the port cannot be hidden, 19, a resulting
+    /// value leaves its range, 7, there would be more than 256 connections and buffers, and 16, `out` is shorter than the resulting table.
+    pub number: u64,
+    /// Of 2 to 11 the byte of the table at which the faulty record begins, counted from 0; of every other number, and of hiding's own 7, 0.
+    pub place: usize,
+    /// The table without the port, which was written at the front of `out`; of a refusal no bytes.
+    pub table: &'a [u8],
+}
+
 unsafe extern "C" {
     fn vundayre_analyse(table: *const u8, table_bytes: usize, answer: *mut u8, answer_bytes: usize) -> Outcome;
 
@@ -87,6 +100,8 @@ unsafe extern "C" {
         answer: *mut u8,
         answer_bytes: usize,
     ) -> JoinOutcome;
+
+    fn vundayre_hide(table: *const u8, table_bytes: usize, port: u64, out: *mut u8, out_bytes: usize) -> Outcome;
 }
 
 type JoinCall = unsafe extern "C" fn(*const u8, usize, *const u8, usize, *const u8, usize, *mut u8, usize) -> JoinOutcome;
@@ -136,4 +151,16 @@ pub fn join<'a>(first: &[u8], second: &[u8], added: &[u8], out: &'a mut [u8]) ->
 pub fn preview<'a>(first: &[u8], second: &[u8], added: &[u8], answer: &'a mut [u8]) -> Preview<'a> {
     let JoinOutcome { number, place, input, written } = call(vundayre_preview, first, second, added, answer);
     Preview { number, place, input, records: &answer[..written] }
+}
+
+/// Hides a port of a table, any bytes at all: writes the table without it, where each connection into the port and each out of it make one. Later
+/// ports are numbered one less. The other ports keep their periods and the starts that are possible for them, of any sign; the starts and sizes
+/// that the analysis returns may be others.
+///
+/// A port that is no port of the table, touches a buffer, joins itself, or lacks a sender or a receiver is refused with number 18. A refusal
+/// writes nothing. Bytes of `out` past the table keep what they held.
+pub fn hide<'a>(table: &[u8], port: u64, out: &'a mut [u8]) -> Hidden<'a> {
+    // SAFETY: the pointers of slices are never null, and a shared and a mutable slice never overlap.
+    let outcome = unsafe { vundayre_hide(table.as_ptr(), table.len(), port, out.as_mut_ptr(), out.len()) };
+    Hidden { number: outcome.number, place: outcome.place, table: &out[..outcome.written] }
 }

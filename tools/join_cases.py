@@ -15,7 +15,7 @@ from join_inputs import FIXED, ONE, TWO, full, random_inputs
 from joiner import join
 from model import Link, Model, Port, buffer, connection, port, table_bytes
 from preview_cases import check_preview, preview_cases
-from programs import BASE, JOIN, PREVIEW, built, called, calls_input, calls_output
+from programs import BASE, JOIN, PREVIEW, built, called, calls_input, results_output
 from shown import Wrong
 
 MOST_INPUT, MOST_ROOM = 65_536, 7_000
@@ -132,7 +132,7 @@ def main():
     check_results('preview', check_preview, previews, results[len(joins):], (0, 1, 12, 13, 14, 15, 17))
     folder = os.path.join(BASE, 'crates', 'join_cases')
     os.makedirs(folder, exist_ok=True)
-    for file_name, data in (('stdin', calls_input(calls)), ('stdout', calls_output(results))):
+    for file_name, data in (('stdin', calls_input(calls)), ('stdout', results_output(results))):
         with open(os.path.join(folder, file_name), 'wb') as file:
             file.write(data)
     print(f'{len(joins)} joins, {len(previews)} previews', file=sys.stderr)

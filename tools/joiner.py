@@ -9,10 +9,14 @@ def ends(link):
     return struct.unpack_from('<HH', link, 4)
 
 
+def with_ends(link, start, end):
+    """A link's record with other ends; every other byte is the same."""
+    return link[:4] + struct.pack('<HH', start, end) + link[8:]
+
+
 def moved(link, by):
-    """A link's record with from and to so many numbers higher; every other byte is the same."""
-    start, end = ends(link)
-    return link[:4] + struct.pack('<HH', start + by, end + by) + link[8:]
+    """A link's record with from and to so many numbers higher."""
+    return with_ends(link, *(end + by for end in ends(link)))
 
 
 def join(first, second, added, room):

@@ -1,4 +1,4 @@
-# What check, join and preview share; they source this. `name` is the script's name and `base` the repository.
+# What check, join, preview and hide share; they source this. `name` is the script's name and `base` the repository.
 
 fail() {
     printf '%s: %s\n' "$name" "$*" >&2
@@ -67,4 +67,15 @@ print_answer() {
     *) fail "the $name program gave no answer" ;;
     esac
     printf '%s\n' "$answer" 2> /dev/null || fail 'the answer was not written'
+}
+
+# Writes the table that the program made, in $room/made, to standard output; where $room/said says why there is none, prints that to standard
+# error, with status 1.
+write_table() {
+    answer=$(cat "$room/said")
+    if [ -n "$answer" ]; then
+        print_answer >&2
+        exit 1
+    fi
+    cat "$room/made" 2> /dev/null || fail 'the table was not written'
 }

@@ -1,4 +1,4 @@
-"""Runs the built programs `models` and `join_cases`, each on many cases at once."""
+"""Runs the built programs `models`, `join_cases` and `hide_cases`, each on many cases at once."""
 import os
 import re
 import struct
@@ -39,6 +39,30 @@ def answers(program, tables):
     return texts
 
 
+def results(program, given, rooms, count):
+    """Of each case, with so many bytes of room, so many numbers and the written bytes. The program prints a line with the numbers, how many bytes it
+    wrote and how many behind them changed, of which there may be none; then the written ones."""
+    printed, at, found = output(program, given), 0, []
+    line = re.compile(b' '.join([rb'(0|[1-9]\d*)'] * (count + 2)) + b'\n')
+    for case, room in enumerate(rooms):
+        match = line.match(printed, at)
+        if not match:
+            sys.exit(f'{program}: no answer to case {case}: {printed[at:at + 80]!a}')
+        *numbers, length, changed = map(int, match.groups())
+        at = match.end() + length
+        if length > room or at > len(printed) or changed:
+            sys.exit(f'{program}: {match[0]!a} is no answer to case {case} with {room} bytes of room')
+        found.append((*numbers, printed[match.end():at]))
+    if at != len(printed):
+        sys.exit(f'{program}: it prints {len(printed) - at} bytes behind the last answer')
+    return found
+
+
+def results_output(found):
+    """What is printed of such results."""
+    return b''.join(' '.join(map(str, (*numbers, len(written), 0))).encode() + b'\n' + written for *numbers, written in found)
+
+
 # The calls of `join_cases`.
 JOIN, PREVIEW = 0, 1
 
@@ -50,29 +74,20 @@ def calls_input(calls):
 
 
 def called(program, calls):
-    """(number, place, input, written bytes) of each call. `join_cases` prints a line with the first three, how many bytes it wrote and how many
-    behind them changed, of which there may be none; then the written ones."""
-    printed, at, results = output(program, calls_input(calls)), 0, []
-    line = re.compile(b' '.join([rb'(0|[1-9]\d*)'] * 5) + b'\n')
-    for number_of_call, (*_, room) in enumerate(calls):
-        match = line.match(printed, at)
-        if not match:
-            sys.exit(f'{program}: no answer to call {number_of_call}: {printed[at:at + 80]!a}')
-        number, place, which, length, changed = map(int, match.groups())
-        at = match.end() + length
-        if length > room or at > len(printed) or changed:
-            sys.exit(f'{program}: {match[0]!a} is no answer to call {number_of_call} with {room} bytes of room')
-        results.append((number, place, which, printed[match.end():at]))
-    if at != len(printed):
-        sys.exit(f'{program}: it prints {len(printed) - at} bytes behind the last answer')
-    return results
-
-
-def calls_output(results):
-    """What `join_cases` prints of such results."""
-    return b''.join(f'{number} {place} {which} {len(written)} 0\n'.encode() + written for number, place, which, written in results)
+    """(number, place, input, written bytes) of each call."""
+    return results(program, calls_input(calls), [room for *_, room in calls], 3)
 
 
 def joins(program, cases):
     """The results of joins, each (first, second, added, room)."""
     return called(program, [(JOIN, *case) for case in cases])
+
+
+def hides_input(cases):
+    """What `hide_cases` reads: of each (table, port, room) the port in eight bytes, the room and the table's length in four each, then the table."""
+    return b''.join(struct.pack('<QII', port, room, len(table)) + table for table, port, room in cases)
+
+
+def hides(program, cases):
+    """(number, place, written bytes) of each hiding."""
+    return results(program, hides_input(cases), [room for *_, room in cases], 2)

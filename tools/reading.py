@@ -2,9 +2,9 @@
 """The files that must be believed: those that the imports of the promises reach.
 
 The promises are `Analysed` and `Demanded` of the crate `specification`, which `vundayre_analyse` cites, those of `Joining`, which `vundayre_join`
-cites, those of `Previewing`, which `vundayre_preview` cites, and what `Bracketing` states of joins, `Sizes` of buffers and `Meaning` of tables that mean the
-same. The imports of their files are followed through this repository's crates; the kit's own libraries are left out. A type that code declares
-stands in the crate's src/.
+cites, those of `Previewing`, which `vundayre_preview` cites, those of `Hiding` and `HiddenTimes`, which `vundayre_hide` cites, and what
+`Bracketing` states of joins, `Sizes` of buffers and `Meaning` of tables that mean the same. The imports of their files are followed through
+this repository's crates; the kit's own libraries are left out. A type that code declares stands in the crate's src/.
 
 usage: tools/reading.py           prints the table of docs/READING.md
        tools/reading.py --check   says whether docs/READING.md has this table, and the longest line of the repository's text; status 1 if not
@@ -16,7 +16,7 @@ import sys
 
 BASE = os.path.dirname(os.path.dirname(os.path.abspath(__file__)))
 ROOTS = [f'crates/specification/specs/{name}.antt' for name in ('Analysed', 'Demanded', 'Joining', 'Previewing', 'Bracketing', 'Sizes',
-                                                              'Meaning')]
+                                                              'Meaning', 'Hiding', 'HiddenTimes')]
 PAGE = 'docs/READING.md'
 MOST_LINE = 300
 IMPORT = re.compile(r'^\s*use Rattle·([a-z_]+)(?:·specs)?\.specs\.([A-Za-z0-9_.\-]+?)\.\{', re.M)

@@ -8,7 +8,6 @@ use lib.Dec.{eqb}
 use lib.ListN.{length, getD, set, take, drop}
 use lib.Seq.{drop-cons, getD-set-same, getD-set-other}
 use Rattle.specification.specs.Bytes.{Written, loopAnswer}
-use Rattle.records.specs.WrittenLaws.{written-none}
 use Rattle.table.specs.WellFormed.{WellFormed}
 use Rattle.specification.specs.Table.{Table, portCount, linkCount}
 use Rattle.order.specs.Order.{Sorted}
@@ -19,7 +18,8 @@ use Rattle.weights.specs.declared.ratios.Ratios.{Ratios}
 use Rattle.weights.specs.declared.ratios.Agreement.the-variants.{Agreeing, Disagreeing, OverLimit}
 use Rattle.specification.specs.Answers.{disagreeing, overweight, loopNumbers}
 use Rattle.graph.specs.Arranged.{Labelled, mostMembers, linkOwners}
-use Rattle.analysis.specs.Decided.{Decided}
+use Rattle.analysis.specs.Decided.{shownIn, Decided}
+use Rattle.analysis.specs.ShownLaws.{shown-none}
 use Rattle.analysis.specs.Timed.{MembersSorted, TableSlices}
 
 -- ---- what the ratios come to
@@ -60,7 +60,7 @@ steps-numbers xs i (suc n) h room =
     )
 
 pub decided-loop : {t : Table} {numbers before after : List ℕ} {steps written : ℕ} → LoopNumbers t numbers steps → 128 ≤ length numbers
-    → Written (loopAnswer (take (2 * steps) numbers)) before after written
+    → Written (shownIn (length before) (loopAnswer (take (2 * steps) numbers))) before after written
     → Decided t before after (record { number = numberOf (Disagreeing steps); place = 0; written = written })
 decided-loop {numbers = numbers} {steps = steps} l room w = record {
   answer = disagreeing (stepsFrom numbers 0 steps);
@@ -73,7 +73,7 @@ decided-loop {numbers = numbers} {steps = steps} l room w = record {
 
 -- ---- number 14
 pub decided-over : {t : Table} (before : List ℕ) → Overweight t → Decided t before before (record { number = numberOf OverLimit; place = 0; written = 0 })
-decided-over before o = record { answer = overweight; right = o; number-is = refl; place-is = refl; records-are = written-none before; fits = tt }
+decided-over before o = record { answer = overweight; right = o; number-is = refl; place-is = refl; records-are = shown-none before; fits = tt }
 
 -- ---- the slices of a table with the room for its work
 pub table-slices : {t : Table} {labels weights members numbers₀ numbers new : List ℕ} {ends : List (List ℕ)} {most room : ℕ} (n m : ℕ)

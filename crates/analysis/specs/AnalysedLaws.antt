@@ -6,15 +6,17 @@ use mathlib.Core.List.{List}
 use native.Mathlib.Omega.{arith}
 use lib.ListN.{length}
 use borrow.Author.Tests.{lt-ltb, le-ltb}
+use Rattle.specification.specs.Bytes.{Written}
 use Rattle.specification.specs.Reading.{readTable}
 use Rattle.specification.specs.Table.{Table}
-use Rattle.specification.specs.Answers.{refused, leastRoom, answerPlace}
+use Rattle.specification.specs.Answers.{refused, records, leastRoom, answerPlace}
 use Rattle.specification.specs.Analysed.{Analysed}
 use Rattle.records.specs.WrittenLaws.{written-none}
 use Rattle.table.specs.WellFormed.{WellFormed}
 use Rattle.table.specs.FaultLaws.{table-no-place}
 use Rattle.demands.specs.Room.{fits-room}
 use Rattle.analysis.specs.Decided.{Decided}
+use Rattle.analysis.specs.ShownLaws.{shown-all}
 use Rattle.specification.specs.declared.Outcome.{Outcome}
 
 pub analysed-short : (s before : List ℕ) → length before < leastRoom → Analysed s before before (record { number = 1; place = 0; written = 0 })
@@ -48,6 +50,11 @@ analysed-faulty s before n place e p f h = record {
   fits = tt;
 }
 
+-- what is decided with a long enough answer buffer is written
+decided-records : {t : Table} {before after : List ℕ} {r : Outcome} → leastRoom ≤ length before → (d : Decided t before after r)
+    → Written (records t (d .answer)) before after (r .written)
+decided-records h d = rw (shown-all _ _ h) at (d .records-are)
+
 pub analysed-decided : (s : List ℕ) {before after : List ℕ} {t : Table} {r : Outcome} → t ≡ readTable s .table → readTable s .number ≡ 0 → leastRoom ≤ length before
     → Decided t before after r
     → Analysed s before after r
@@ -61,10 +68,10 @@ analysed-decided s {before} e z h d = record {
   };
   number-is = d .number-is;
   place-is = rw (le-ltb (length before) leastRoom h, table-no-place s (inl (omega (arith, z)))) (d .place-is);
-  records-are = rw (← e) (d .records-are);
+  records-are = rw (← e) (decided-records h d);
   fits = rw (← e) (d .fits);
 }
 
 -- the least answer buffer has room for what is written
-pub written-room : {t : Table} {before after : List ℕ} {r : Outcome} → WellFormed t → Decided t before after r → r .written ≤ leastRoom
-written-room {t} formed d = omega (arith, d .records-are .counted, fits-room {x = d .answer} formed (d .right) .fits)
+pub written-room : {t : Table} {before after : List ℕ} {r : Outcome} → WellFormed t → leastRoom ≤ length before → Decided t before after r → r .written ≤ leastRoom
+written-room {t} formed h d = omega (arith, decided-records h d .counted, fits-room {x = d .answer} formed (d .right) .fits)

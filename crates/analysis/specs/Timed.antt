@@ -14,6 +14,7 @@ use Rattle.specification.specs.Answers.{Floor, floorRecord, NoPeriod}
 use Rattle.specification.specs.Ratios.{IsComponent}
 use Rattle.graph.specs.Arranged.{Labelled, labelsOf, mostMembers, SlicesIn, Arranged}
 use Rattle.results.specs.Kept.{componentAt, aAt, bAt, startAt}
+use Rattle.analysis.specs.Decided.{shownIn}
 use Rattle.analysis.specs.declared.periods.Timed.{Timed}
 use Rattle.analysis.specs.declared.periods.Timed.the-variants.{Least, NoLeast as Without, Shown as Shows}
 
@@ -62,12 +63,12 @@ pub record SomeNoLeast (t : Table) (weights : List ℕ) : Type 0 where
   pub component : IsComponent t c
   pub no-least : NoLeast (graphIn t (λ p. getD weights p 0) c)
 
--- number 15, shown in the answer buffer
+-- number 15, shown in the answer buffer unless that is too short
 pub record Shown (t : Table) (before after : List ℕ) (r : ℕ) : Type 0 where
   pub floor : Floor
   pub block : List ℕ
   pub no-period : NoPeriod t floor block
-  pub records-are : Written (floorRecord floor ++ cycleAnswer block) before after r
+  pub records-are : Written (shownIn (length before) (floorRecord floor ++ cycleAnswer block)) before after r
 
 -- the number that timing comes to
 abbrev pub numberOf : Timed → ℕ

@@ -13,7 +13,6 @@ ghost use Rattle.analysis.specs.Timed.{MembersSorted};
 ghost use Rattle.analysis.specs.Decided.{Decided};
 ghost use Rattle.specification.specs.Analysed.{Analysed};
 use graph::connections;
-use records::write;
 use specification::Outcome;
 use specification::limits;
 use table::links;
@@ -23,6 +22,7 @@ use weights::ratios;
 use weights::ratios::Agreement;
 
 mod periods;
+mod show;
 
 pub fn analyse(s: &[u8], answer: &mut [u8]) -> Outcome
     ensures { λ r. ⌜ Analysed (now (s .entry)) (now (answer .entry)) (now (answer .exit)) r ⌝ }
@@ -70,10 +70,9 @@ fn read_in(s: &[u8], ports: &mut [u32], links: &mut [u32], answer: &mut [u8]) ->
     decide(&ports[..port_end], &links[..link_end], answer)
 }
 
-// A table in slices: 13, 14, or what the periods come to.
+// A table in slices: 13, 14, or what the periods come to. An answer buffer shorter than `LEAST_ROOM` receives nothing.
 pub fn decide(ports: &[u32], links: &[u32], answer: &mut [u8]) -> Outcome
     requires { ⌜ WellFormed (tableOf (now ports) (now links)) ⌝ }
-    requires { ⌜ leastRoom ≤ length (now answer) ⌝ }
     ensures { λ r. ⌜ Decided (tableOf (now (ports .entry)) (now (links .entry))) (now (answer .entry)) (now (answer .exit)) r ⌝ }
 {
     let mut loop_numbers = [0u64; 128];
@@ -87,7 +86,7 @@ pub fn decide(ports: &[u32], links: &[u32], answer: &mut [u8]) -> Outcome
             time(ports, links, &labels, &weights, answer)
         }
         Agreement::Disagreeing(steps) => {
-            let written = write::write_loop(answer, &loop_numbers[..2 * steps]);
+            let written = show::show_loop(&loop_numbers[..2 * steps], answer);
             Outcome {
                 number,
                 place: 0,
@@ -112,7 +111,6 @@ fn time(
     answer: &mut [u8],
 ) -> Outcome
     requires { ⌜ Labelled (tableOf (now ports) (now links)) (now labels) (now weights) ⌝ }
-    requires { ⌜ leastRoom ≤ length (now answer) ⌝ }
     ensures { λ r. ⌜ Decided (tableOf (now (ports .entry)) (now (links .entry))) (now (answer .entry)) (now (answer .exit)) r ⌝ }
 {
     let total = ports::count(ports);
@@ -166,7 +164,6 @@ fn time_small(
     requires { ⌜ MembersSorted (tableOf (now ports) (now links)) (now labels) (now ends) (now members) ⌝ }
     requires { ⌜ mostMembers (tableOf (now ports) (now links)) (now labels) ≤ 3 ⌝ }
     requires { ⌜ length (linksOf (now links)) ≤ 8 ⌝ }
-    requires { ⌜ leastRoom ≤ length (now answer) ⌝ }
     ensures { λ r. ⌜ Decided (tableOf (now (ports .entry)) (now (links .entry))) (now (answer .entry)) (now (answer .exit)) r ⌝ }
 {
     let mut owners = [0usize; 8];
@@ -206,7 +203,6 @@ fn time_middle(
     requires { ⌜ MembersSorted (tableOf (now ports) (now links)) (now labels) (now ends) (now members) ⌝ }
     requires { ⌜ mostMembers (tableOf (now ports) (now links)) (now labels) ≤ 15 ⌝ }
     requires { ⌜ length (linksOf (now links)) ≤ 32 ⌝ }
-    requires { ⌜ leastRoom ≤ length (now answer) ⌝ }
     ensures { λ r. ⌜ Decided (tableOf (now (ports .entry)) (now (links .entry))) (now (answer .entry)) (now (answer .exit)) r ⌝ }
 {
     let mut owners = [0usize; 32];
@@ -244,7 +240,6 @@ fn time_large(
 ) -> Outcome
     requires { ⌜ Labelled (tableOf (now ports) (now links)) (now labels) (now weights) ⌝ }
     requires { ⌜ MembersSorted (tableOf (now ports) (now links)) (now labels) (now ends) (now members) ⌝ }
-    requires { ⌜ leastRoom ≤ length (now answer) ⌝ }
     ensures { λ r. ⌜ Decided (tableOf (now (ports .entry)) (now (links .entry))) (now (answer .entry)) (now (answer .exit)) r ⌝ }
 {
     let mut owners = [0usize; 256];

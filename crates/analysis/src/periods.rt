@@ -2,16 +2,14 @@
 ghost use Prim.Native.Nat.{_+_, _*_, _≤_};
 ghost use mathlib.Core.Path.{_≡_};
 ghost use lib.ListN.{length, getD};
-ghost use Rattle.specification.specs.Answers.{leastRoom};
 ghost use Rattle.table.specs.Slices.{tableOf};
 ghost use Rattle.analysis.specs.Decided.{Decided};
 ghost use Rattle.analysis.specs.Timed.{Members, Kept, numberOf, OneTimed, ComponentSlices, TableSlices};
+use crate::show;
 use fraction::Fraction;
 use period::limit;
 use period::search;
 use period::search::SearchEnd;
-use results::blocked;
-use results::consistent;
 use specification::Outcome;
 use table::ports;
 
@@ -77,7 +75,6 @@ fn time_one(
     requires { ⌜ ComponentSlices (tableOf (now ports) (now links)) (now weights) (now members) (now numbers) ⌝ }
     requires { ⌜ 64 * length (now members) + 64 + 4 * length (now numbers) ≤ length (now work) ⌝ }
     requires { ⌜ length (now kept) ≡ 256 ⌝ }
-    requires { ⌜ leastRoom ≤ length (now answer) ⌝ }
     ensures { λ r. ⌜ OneTimed (tableOf (now (ports .entry)) (now (links .entry))) (now (weights .entry)) (getD (now (members .entry)) 0 0) (now (kept .entry)) (now (kept .exit)) (now (answer .entry)) (now (answer .exit)) r ⌝ }
 {
     let greatest = limit::greatest_limit(ports, weights, members);
@@ -98,7 +95,7 @@ fn time_one(
             Timed::Least
         }
         SearchEnd::NoLeast => Timed::NoLeast,
-        SearchEnd::Blocked => Timed::Shown(blocked::write_blocked(s, numbers, answer)),
+        SearchEnd::Blocked => Timed::Shown(show::show_blocked(s, numbers, answer)),
     }
 }
 
@@ -115,7 +112,6 @@ pub fn time_all(
     answer: &mut [u8],
 ) -> Outcome
     requires { ⌜ TableSlices (tableOf (now ports) (now links)) (now weights) (now members) (now numbers) (now ends) (length (now work)) ⌝ }
-    requires { ⌜ leastRoom ≤ length (now answer) ⌝ }
     ensures { λ r. ⌜ Decided (tableOf (now (ports .entry)) (now (links .entry))) (now (answer .entry)) (now (answer .exit)) r ⌝ }
 {
     let total = ports::count(ports);
@@ -157,7 +153,7 @@ pub fn time_all(
         c = c + 1;
     }
     if least {
-        let written = consistent::write_consistent(ports, links, weights, &kept, answer);
+        let written = show::show_consistent(ports, links, weights, &kept, answer);
         return Outcome {
             number: number_of(Timed::Least),
             place: 0,

@@ -12,7 +12,9 @@ use Rattle.specification.specs.Table.{Table, portCount, linkCount, noLink, most
 use Rattle.specification.specs.Reading.{Reading, readOn, start}
 use Rattle.specification.specs.Encoding.{encodeLinks, encodeTable}
 use Rattle.specification.specs.Joining.{moved, behind, beforeSecond, beforeAdded, bothTables, joinedTable, Join, joinOf}
-use Rattle.specification.specs.Bracketing.{keep, endsBelow, endsFrom, lowered, portsOfA, portsOfAB, threeTables, Three, addedLinks, whole, joinLeft, joinRight, SameTables}
+use Rattle.numbers.specs.Lists.{keep}
+use Rattle.numbers.specs.KeepLaws.{keep-length}
+use Rattle.specification.specs.Bracketing.{endsBelow, endsFrom, lowered, portsOfA, portsOfAB, threeTables, Three, addedLinks, whole, joinLeft, joinRight, SameTables}
 use Rattle.table.specs.WellFormed.{LinkFits, OneSided}
 use Rattle.table.specs.ReadingLaws.{between-fits, fits-more, read-on-fits}
 use Rattle.table.specs.FilledLaws.{moved-none}
@@ -22,7 +24,7 @@ use Rattle.joins.specs.ReadElsewhere.{read-elsewhere}
 use Rattle.encoding.specs.ReadBack.{Writable, read-back}
 use Rattle.joins.specs.JoinedLaws.{between-sided, joined-writable}
 use Rattle.joins.specs.AddedLaws.{no-port}
-use Rattle.bracketing.specs.PermutationLaws.{permuted-exchange, permuted-parts, keep-length, each-keep}
+use Rattle.bracketing.specs.PermutationLaws.{permuted-exchange, permuted-parts, each-keep}
 use Rattle.specification.specs.declared.Link.{Link}
 
 -- ---- one join

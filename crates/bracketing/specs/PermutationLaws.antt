@@ -1,11 +1,11 @@
 -- Permutations of lists, and the elements that pass a test.
-use Prim.Native.Nat.{ℕ, zero, suc, _+_, _<_}
+use Prim.Native.Nat.{ℕ, zero, suc, _<_}
 use mathlib.Core.Path.{_≡_, refl}
 use mathlib.Core.Bool.{Bool, true, false, not, cond}
 use mathlib.Core.List.{List, [], _∷_, _++_, List·Permᴰ, List·Permᴰ·nil, List·Permᴰ·cons, List·Permᴰ·trans, Permᴰ·refl, Permᴰ·symm, Permᴰ·middle}
 use native.Mathlib.Omega.{arith}
 use lib.ListN.{length, getD}
-use Rattle.specification.specs.Bracketing.{keep}
+use Rattle.numbers.specs.Lists.{keep}
 use Rattle.joins.specs.EachLaws.{Each}
 
 -- two parts exchanged
@@ -28,16 +28,6 @@ module _ {A : Type 0} (test : A → Bool) where
           → List·Permᴰ (cond t (x ∷ keep test xs) (keep test xs) ++ cond (not t) (x ∷ others xs) (others xs)) (x ∷ xs)
       decided true rest = List·Permᴰ·cons refl rest
       decided false rest = List·Permᴰ·trans (Permᴰ·middle x (keep test xs) (others xs)) (List·Permᴰ·cons refl rest)
-
-  pub keep-length : (xs : List A) → length (keep test xs) + length (others xs) ≡ length xs
-  unfolding keep
-  keep-length [] = refl
-  keep-length (x ∷ xs) = decided (test x) (keep-length xs)
-    where
-      decided : (t : Bool) → length (keep test xs) + length (others xs) ≡ length xs
-          → length (cond t (x ∷ keep test xs) (keep test xs)) + length (cond (not t) (x ∷ others xs) (others xs)) ≡ suc (length xs)
-      decided true e = omega arith
-      decided false e = omega arith
 
   pub each-keep : (P Q : A → Type 0) (d : A) (xs : List A) → ((x : A) → test x ≡ true → P x → Q x) → Each P d xs → Each Q d (keep test xs)
   unfolding keep

@@ -7,13 +7,12 @@ ghost use Rattle.specification.specs.Table.{noLink};
 ghost use Rattle.specification.specs.Encoding.{encodeLink, encodePorts, encodeLinks, encodeTable};
 ghost use Rattle.table.specs.Slices.{portsOf, linksOf, tableOf};
 ghost use Rattle.encoding.specs.Bounded.{LinksFit};
-use specification::Port;
 use table::links;
 use table::ports;
 
-mod record;
+pub mod record;
 
-fn link_size(links: &[u32], k: usize) -> usize
+pub fn link_size(links: &[u32], k: usize) -> usize
     requires { ⌜ k < length (linksOf (now links)) ⌝ }
     ensures { λ r. ⌜ r ≡ length (encodeLink (getD (linksOf (now (links .entry))) k noLink)) ⌝ }
 {
@@ -57,11 +56,7 @@ fn write_ports(ports: &[u32], out: &mut [u8]) -> usize
     let mut at: usize = 0;
     let mut p: usize = 0;
     while p < count {
-        let port = Port {
-            num: ports::num(ports, p),
-            den: ports::den(ports, p),
-        };
-        at = at + record::write_port(&mut out[at..], port);
+        at = at + record::write_port(&mut out[at..], ports::at(ports, p));
         p = p + 1;
     }
     at

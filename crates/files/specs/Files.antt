@@ -57,6 +57,10 @@ pub record GivenAtMost (first second added : Input) (r : InTurn) : Type 0 where
 unfoldable pub given : (whole : Bool) → List ℕ → List ℕ
 given whole s = cond whole s []
 
+-- the room for every line
+abbrev pub lineRoom : ℕ
+lineRoom = 52
+
 -- a fault's number and place; else the line of the first file that was not read whole; else none
 unfoldable pub lineOf : (number place : ℕ) (whole failed : Bool) → List ℕ
 lineOf number place whole failed = cond (eqb number 0) (cond whole [] (notWholeLine failed)) (answerLine number place)

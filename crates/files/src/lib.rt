@@ -1,9 +1,12 @@
-// The three files of a join, read in turn: how much of each is given, and how the first that was not read whole ended.
+// The three files of a join, read in turn: how much of each is given, how the first that was not read whole ended, and the line of it.
 ghost use mathlib.Core.Path.{_≡_};
 ghost use mathlib.Core.Bool.{cond};
 ghost use Prim.Native.Nat.{_≤_};
-ghost use Rattle.files.specs.Files.{wholeFile, stopFailed, inTurn, GivenAtMost};
+ghost use lib.ListN.{length};
+ghost use Rattle.specification.specs.Bytes.{Written};
+ghost use Rattle.files.specs.Files.{wholeFile, stopFailed, inTurn, GivenAtMost, lineOf, lineRoom};
 use input::Input;
+use text::print;
 
 // How many bytes of each file are given; whether all were read whole; and whether a read failed of the first that was not.
 pub struct InTurn {
@@ -66,4 +69,24 @@ pub fn in_turn(first: Input, second: Input, added: Input) -> InTurn
         whole,
         failed,
     }
+}
+
+// How many bytes at the front of a program's two buffers are the table and the line that it writes.
+pub struct Lengths {
+    pub written: usize,
+    pub line: usize,
+}
+
+// The line of a fault, else of the first file that was not read whole; none where all were.
+pub fn print_line(number: u64, place: usize, whole: bool, failed: bool, text: &mut [u8]) -> usize
+    requires { ⌜ lineRoom ≤ length (now text) ⌝ }
+    ensures { λ r. ⌜ Written (lineOf number place whole failed) (now (text .entry)) (now (text .exit)) r ⌝ }
+{
+    if number != 0 {
+        return print::print(number, place, b"", text);
+    }
+    if whole {
+        return 0;
+    }
+    print::print_not_whole(failed, text)
 }

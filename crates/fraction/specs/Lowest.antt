@@ -9,8 +9,8 @@ use lib.Dec.{ltb}
 use borrow.Author.Tests.{ltb-true, lt-ltb}
 use Rattle.fraction.specs.declared.Fraction.{Fraction}
 use Rattle.numbers.specs.DivisorLaws.{divisor-positive, quotient-is}
-use Rattle.numbers.specs.Gcd.{gcd, gcd-is, gcd-positive, coprime-one-right, gcd-quotients, coprime-unique}
-use Rattle.numbers.specs.Divisors.{Coprime}
+use Rattle.numbers.specs.Gcd.{gcd-is, gcd-positive, coprime-one-right, gcd-quotients, coprime-unique}
+use Rattle.numbers.specs.Divisors.{Coprime, gcd}
 use Rattle.numbers.specs.Rationals.{Rational, _≈_, _≺_, _·_, share}
 
 -- num / den, with both parts divided by their greatest common divisor

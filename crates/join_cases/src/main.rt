@@ -4,7 +4,7 @@
 ghost use Prim.Native.Nat.{_≤_};
 ghost use mathlib.Core.Path.{_≡_};
 ghost use lib.ListN.{length};
-ghost use Rattle.join_cases.specs.Changed.{changedByte, changedBytes};
+use marked::print_number;
 use records::read::number_at;
 use specification::JoinOutcome;
 
@@ -13,9 +13,6 @@ const MOST: usize = 100000;
 
 // The number of the call of a join; every other is that of a preview.
 const JOIN: u64 = 0;
-
-// Before a call each byte of the room is this one, which no record has everywhere, so that a byte that was not to change shows.
-const MARK: u8 = 165;
 
 fn main() {
     let mut space = io::large_buffer();
@@ -92,7 +89,7 @@ fn print_case(case: Case, s: &[u8], room: &mut [u8]) -> bool
     requires { ⌜ case .second ≤ case .added ⌝ }
     requires { ⌜ case .added ≤ length (now s) ⌝ }
 {
-    mark(room);
+    marked::mark(room);
     let second = case.second;
     let added = case.added;
     let r = outcome(
@@ -102,13 +99,10 @@ fn print_case(case: Case, s: &[u8], room: &mut [u8]) -> bool
         &s[added..],
         room,
     );
-    let written = r.written;
     print_number(r.number, b" ");
     print_number(r.place as u64, b" ");
     print_number(r.input, b" ");
-    print_number(written as u64, b" ");
-    print_number(changed(&room[written..]) as u64, b"\n");
-    io::write_all(libc::STDOUT_FILENO, &room[..written])
+    marked::print_written(room, r.written)
 }
 
 fn outcome(call: u64, first: &[u8], second: &[u8], added: &[u8], room: &mut [u8]) -> JoinOutcome
@@ -118,40 +112,4 @@ fn outcome(call: u64, first: &[u8], second: &[u8], added: &[u8], room: &mut [u8]
         return joins::join(first, second, added, room);
     }
     previews::preview(first, second, added, room)
-}
-
-fn print_number(n: u64, behind: &[u8]) {
-    io::print_decimal(libc::STDOUT_FILENO, n);
-    io::write_all(libc::STDOUT_FILENO, behind);
-}
-
-fn mark(room: &mut [u8]) {
-    let mut i: usize = 0;
-    while i < room.len() {
-        room[i] = MARK;
-        i = i + 1;
-    }
-}
-
-// How many bytes are no longer marked.
-fn changed(rest: &[u8]) -> usize
-    ensures { λ r. ⌜ r ≡ changedBytes (now (rest .entry)) ⌝ }
-{
-    let mut count: usize = 0;
-    let mut i: usize = 0;
-    while i < rest.len() {
-        count = count + unmarked(rest[i]);
-        i = i + 1;
-    }
-    count
-}
-
-fn unmarked(byte: u8) -> usize
-    ensures { λ r. ⌜ r ≡ changedByte byte ⌝ }
-    ensures within { λ r. ⌜ r ≤ 1 ⌝ }
-{
-    if byte == MARK {
-        return 0;
-    }
-    1
 }

@@ -4,11 +4,7 @@ use mathlib.Core.Path.{_≡_}
 use mathlib.Core.List.{List}
 use lib.ListN.{length, take}
 use Rattle.files.specs.Files.{File, given, addedWhole, joinFiles, joinLine}
-use Rattle.join_report.specs.declared.Lengths.{Lengths}
-
--- the room for every line
-abbrev pub lineRoom : ℕ
-lineRoom = 52
+use Rattle.files.specs.declared.Lengths.{Lengths}
 
 -- a refusal has no bytes
 abbrev pub joinTable : (first second added : File) → List ℕ

@@ -1,32 +1,11 @@
 // What the join program writes: the joined table, or the line that says why there is none, over slices.
 ghost use Prim.Native.Nat.{_≤_};
 ghost use lib.ListN.{length};
-ghost use Rattle.specification.specs.Bytes.{Written};
 ghost use Rattle.specification.specs.Encoding.{mostTableBytes};
-ghost use Rattle.files.specs.Files.{fileOf, ReadInto, lineOf};
-ghost use Rattle.join_report.specs.JoinReport.{lineRoom, JoinReported};
+ghost use Rattle.files.specs.Files.{fileOf, ReadInto, lineRoom};
+ghost use Rattle.join_report.specs.JoinReport.{JoinReported};
+use files::Lengths;
 use input::Input;
-use text::print;
-
-// How many bytes at the front of the buffers are the table and the line.
-pub struct Lengths {
-    pub written: usize,
-    pub line: usize,
-}
-
-// The line of a fault, else of the first file that was not read whole; none where all were.
-fn print_line(number: u64, place: usize, whole: bool, failed: bool, text: &mut [u8]) -> usize
-    requires { ⌜ lineRoom ≤ length (now text) ⌝ }
-    ensures { λ r. ⌜ Written (lineOf number place whole failed) (now (text .entry)) (now (text .exit)) r ⌝ }
-{
-    if number != 0 {
-        return print::print(number, place, b"", text);
-    }
-    if whole {
-        return 0;
-    }
-    print::print_not_whole(failed, text)
-}
 
 // What was read of each file stands at the front of its space.
 pub fn report(
@@ -56,7 +35,7 @@ pub fn report(
         &added[..added_count],
         out,
     );
-    let line = print_line(joined.number, joined.place, turn.whole, turn.failed, text);
+    let line = files::print_line(joined.number, joined.place, turn.whole, turn.failed, text);
     Lengths {
         written: files::given(turn.whole, joined.written),
         line,

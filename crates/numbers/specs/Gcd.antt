@@ -1,20 +1,10 @@
--- Greatest common divisors, coprime numbers and Gauss's lemma.
+-- Laws of the greatest common divisor and of coprime numbers, and Gauss's lemma.
 use Prim.Native.Nat.{ℕ, zero, suc, _+_, _*_, _/_, _%_, _≤_, _<_}
 use mathlib.Core.Path.{_≡_, refl, ap, _∙_}
 use native.Mathlib.Nat.{div-add-mod', mul-one, one-mul, mod-lt, zero-lt-suc, not-suc-le-zero, le-refl, eq-of-mul-eq-mul-left, eq-of-mul-eq-mul-right}
 use native.Mathlib.Omega.{arith}
-use Rattle.numbers.specs.Divisors.{Divides, Coprime}
+use Rattle.numbers.specs.Divisors.{Divides, Coprime, euclid-within, gcd}
 use Rattle.numbers.specs.DivisorLaws.{divides-refl, divides-zero, divides-trans, divides-product, divides-times, divides-rest, divisor-positive, divides-antisym, divides-one}
-
--- Euclid's algorithm. The first number bounds the divisions: b are enough, by `gcd-is`
-euclid-within : ℕ → ℕ → ℕ → ℕ
-euclid-within zero a b = a
-euclid-within (suc n) a zero = a
-euclid-within (suc n) a (suc b) = euclid-within n (suc b) (a % suc b)
-
-unfoldable pub gcd : ℕ → ℕ → ℕ
-unfolding euclid-within
-gcd a b = euclid-within b a b
 
 -- g is the greatest common divisor: it divides both, and what divides both, times any c, divides g times c
 pub record IsGcd (a b g : ℕ) : Type 0 where

@@ -8,5 +8,6 @@ pub mod Prime
 pub mod Exponents
 pub mod Lists
 pub mod ListLaws
+pub mod KeepLaws
 pub mod WideRows
 pub mod Taken

@@ -5,7 +5,7 @@ use mathlib.Core.Bool.{true, false}
 use mathlib.Core.List.{List, [], _∷_, _++_}
 use native.Mathlib.Omega.{arith}
 use lib.ListN.{getD}
-use Rattle.numbers.specs.Gcd.{gcd}
+use Rattle.numbers.specs.Divisors.{gcd}
 use Rattle.fraction.specs.Lowest.{lowestTerms}
 use Rattle.specification.specs.Table.{Table, noPort, noLink}
 use Rattle.specification.specs.declared.Link.{Link}

@@ -1,10 +1,11 @@
 -- Three tables joined in both ways of bracketing, and what the two results have in common.
 use Prim.Native.Nat.{ℕ, _+_, _*_, _-_, _≤_}
 use mathlib.Core.Path.{_≡_}
-use mathlib.Core.Bool.{Bool, not, _&&_, cond}
-use mathlib.Core.List.{List, [], _∷_, _++_, map, List·Permᴰ}
+use mathlib.Core.Bool.{Bool, not, _&&_}
+use mathlib.Core.List.{List, _++_, map, List·Permᴰ}
 use lib.ListN.{take}
 use lib.Dec.{ltb, leb}
+use Rattle.numbers.specs.Lists.{keep}
 use Rattle.specification.specs.Bytes.{portBytes}
 use Rattle.specification.specs.Table.{Table, mostPorts, mostLinks, portCount, linkCount, IsPort}
 use Rattle.specification.specs.Reading.{readOn, start}
@@ -15,11 +16,6 @@ use Rattle.specification.specs.declared.Link.{Link}
 use Rattle.specification.specs.declared.Outcome.{Outcome}
 
 -- ---- lots of added records
--- the elements that pass a test, in their order
-unfoldable pub keep : {A : Type 0} → (A → Bool) → List A → List A
-keep test [] = []
-keep test (x ∷ xs) = cond (test x) (x ∷ keep test xs) (keep test xs)
-
 -- both ends are below port n
 unfoldable pub endsBelow : ℕ → Link → Bool
 endsBelow n l = ltb (l .from) n && ltb (l .to) n

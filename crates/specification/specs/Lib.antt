@@ -14,4 +14,6 @@ pub mod Encoding
 pub mod Joining
 pub mod Previewing
 pub mod Bracketing
+pub mod Hiding
+pub mod HiddenTimes
 pub mod Sizes

@@ -54,8 +54,8 @@ pub enum Read {
     End,
 }
 
-// What a call of the analysis returns: the number, the byte at which the faulty record begins, 0 where the number concerns no record, and
-// how many bytes of the answer buffer were written.
+// What a call of the analysis, or of hiding a port, returns: the number, the byte at which the faulty record begins, 0 where the number
+// concerns no record, and how many bytes of the buffer were written.
 #[repr(C)]
 pub struct Outcome {
     pub number: u64,

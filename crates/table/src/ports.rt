@@ -39,6 +39,13 @@ fn port(ports: &[u32], p: usize) -> Port
     read(ports, p)
 }
 
+pub fn at(ports: &[u32], p: usize) -> Port
+    requires { ⌜ p < length (portsOf (now ports)) ⌝ }
+    ensures { λ r. ⌜ r ≡ getD (portsOf (now (ports .entry))) p noPort ⌝ }
+{
+    port(ports, p)
+}
+
 pub fn num(ports: &[u32], p: usize) -> u64
     requires { ⌜ p < length (portsOf (now ports)) ⌝ }
     ensures { λ r. ⌜ r ≡ getD (portsOf (now (ports .entry))) p noPort .num ⌝ }

@@ -112,7 +112,7 @@ pub fn print(number: u64, place: usize, records: &[u8], text: &mut [u8]) -> usiz
 }
 
 // A line as it stands, at the front of the text.
-fn print_line(line: &[u8], text: &mut [u8]) -> usize
+pub fn print_line(line: &[u8], text: &mut [u8]) -> usize
     requires { ⌜ length (now line) ≤ length (now text) ⌝ }
     ensures { λ r. ⌜ Written (now (line .entry)) (now (text .entry)) (now (text .exit)) r ⌝ }
     ensures { λ r. ⌜ r ≤ length (now (text .exit)) ⌝ }

@@ -10,9 +10,9 @@ use lib.Dec.{eqb}
 use lib.ListN.{getD}
 use borrow.Author.Tests.{eq-eqb, ne-eqb}
 use borrow.Author.Count.{below-more}
-use Rattle.numbers.specs.Divisors.{Divides, Coprime}
+use Rattle.numbers.specs.Divisors.{Divides, Coprime, gcd}
 use Rattle.numbers.specs.DivisorLaws.{divides-times, divisor-positive, quotient-is}
-use Rattle.numbers.specs.Gcd.{gcd, gcd-is, gcd-positive, gcd-quotients, gauss, coprime-sym}
+use Rattle.numbers.specs.Gcd.{gcd-is, gcd-positive, gcd-quotients, gauss, coprime-sym}
 use Rattle.fraction.specs.Lowest.{lowestTerms, lowest-is}
 use Rattle.table.specs.WellFormed.{WellFormed}
 use Rattle.specification.specs.Table.{Table, IsPort, IsLink, from, to, num, den}

@@ -25,31 +25,30 @@ time-requires c κs =
     let at-enum-told = c .before .before .before .before .before in
     let at-ratios-of = at-enum-told .before .before .before .before in
     let entry = at-ratios-of .before .before .before .before .before in
-    let given = entry .pre in
-    (labelled (at-ratios-of .ratios-of .ensures) (given .0) (at-enum-told .enum-told .given .1), given .1)
+    labelled (at-ratios-of .ratios-of .ensures) (entry .pre) (at-enum-told .enum-told .given .1)
 
 enum-known-agreement : tie.Need-enum-known-agreement
 enum-known-agreement c = search needs
 
 mul-loop-numbers : tie.Need-mul-loop-numbers
 mul-loop-numbers c =
-    let at-ratios-of = c .before .before .before .before .before .before in
-    omega (arith, disagrees (at-ratios-of .ratios-of .ensures) (c .before .before .agreement .given .1) .few)
+    let at-ratios-of = c .before .before .before .before .before in
+    omega (arith, disagrees (at-ratios-of .ratios-of .ensures) (c .before .agreement .given .1) .few)
 
 array-share-prefix-loop-numbers : tie.Need-array-share-prefix-loop-numbers
 array-share-prefix-loop-numbers c =
-    let at-ratios-of = c .before .before .before .before .before .before in
-    omega (arith, disagrees (at-ratios-of .ratios-of .ensures) (c .before .before .agreement .given .1) .few)
+    let at-ratios-of = c .before .before .before .before .before in
+    omega (arith, disagrees (at-ratios-of .ratios-of .ensures) (c .before .agreement .given .1) .few)
 
-slice-aggregate-write-loop : tie.Need-slice-aggregate-write-loop
-slice-aggregate-write-loop c =
+slice-aggregate-show-loop : tie.Need-slice-aggregate-show-loop
+slice-aggregate-show-loop c =
+    let at-ratios-of = c .before .before .before .before .before .before in
+    simp length-take (omega (arith, disagrees (at-ratios-of .ratios-of .ensures) (c .before .before .agreement .given .1) .few))
+
+show-loop-requires : tie.Need-show-loop-requires
+show-loop-requires c κs =
     let at-ratios-of = c .before .before .before .before .before .before .before in
     simp length-take (omega (arith, disagrees (at-ratios-of .ratios-of .ensures) (c .before .before .before .agreement .given .1) .few))
-
-write-loop-requires : tie.Need-write-loop-requires
-write-loop-requires c κs =
-    let loop = disagrees (c .before .before .before .before .before .before .before .ratios-of .ensures) (c .before .before .before .agreement .given .1) in
-    simp length-take (omega (arith, loop .few, c .before .before .before .before .before .before .before .before .before .before .before .before .pre .1))
 
 enum-told-2 : tie.Need-enum-told-2
 enum-told-2 c = search needs
@@ -70,7 +69,7 @@ returns-2 c =
     let at-ratios-of = at-number-of .before .before in
     let is = at-agreement .agreement .given .1 in
     let loop = disagrees (at-ratios-of .ratios-of .ensures) is in
-    rw (at-number-of .number-of .ensures ∙ ap numberOf is) (decided-loop loop (search needs) (c .before .before .write-loop .ensures))
+    rw (at-number-of .number-of .ensures ∙ ap numberOf is) (decided-loop loop (search needs) (c .before .before .show-loop .ensures))
 
 returns-3 : tie.Need-returns-3
 returns-3 c =
@@ -89,8 +88,8 @@ decide-spec =
     enum-known-agreement
     mul-loop-numbers
     array-share-prefix-loop-numbers
-    slice-aggregate-write-loop
-    write-loop-requires
+    slice-aggregate-show-loop
+    show-loop-requires
     enum-told-2
     same-length
     returns

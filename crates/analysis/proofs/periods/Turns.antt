@@ -32,10 +32,10 @@ use Rattle.graph.specs.SliceLaws.{port-of, some-component, no-component, first-
 use Rattle.results.specs.Kept.{TableNumbers, timingOf}
 use Rattle.results.specs.Sizes.{size-is, size-small}
 use Rattle.results.specs.Named.{NamedBlock}
-use Rattle.analysis.specs.Decided.{Decided}
+use Rattle.analysis.specs.Decided.{shownIn, Decided}
+use Rattle.analysis.specs.ShownLaws.{shown-none}
 use Rattle.analysis.specs.Timed.{Members, Kept, TimedBelow, PeriodsBelow, SomeNoLeast, Shown, OneLeast, OneNoLeast, OneShown, ComponentSlices, TableSlices}
 use Rattle.analysis.proofs.periods.Components.{timed-none, timed-skip, timed-next, periods-none, periods-skip, periods-next, has-period, no-period, no-least-period, timed-numbers, timed-consistent, timed-fields}
-use Rattle.records.specs.WrittenLaws.{written-none}
 
 -- ---- one component
 -- the row that the last of so many rounds left as it was
@@ -114,7 +114,7 @@ module _ {t : Table} {weights members numbers : List ℕ} (k : ComponentSlices t
     without kept answer found = record { no-least = ended-in found; same-length = refl; unchanged = refl }
 
     pub shown : {answer answer′ : List ℕ} {n : ℕ} (kept : List ℕ) → r .end ≡ EndsBlocked
-        → Written (floorRecord (floorOf numbers (r .limit) (r .floor)) ++ cycleAnswer (connectionsOf numbers (r .block))) answer answer′ n
+        → Written (shownIn (length answer) (floorRecord (floorOf numbers (r .limit) (r .floor)) ++ cycleAnswer (connectionsOf numbers (r .block)))) answer answer′ n
         → OneShown t weights c kept kept answer answer′ n
     shown kept found w = record {
       of = λ below. record {
@@ -314,7 +314,7 @@ module _ {t : Table} {weights members numbers : List ℕ} {ends : List (List ℕ
     right = no-least-period (s .slices .labelled) (rw last (s .periods)) (s .some e);
     number-is = refl;
     place-is = refl;
-    records-are = rw (s .unchanged) (written-none answer₀);
+    records-are = rw (s .unchanged) (shown-none answer₀);
     fits = tt;
   }
 
@@ -326,7 +326,7 @@ module _ {t : Table} {weights members numbers : List ℕ} {ends : List (List ℕ
     pub all-numbers : TableNumbers t weights kept
     all-numbers = timed-numbers (s .slices .labelled) timed-all
 
-    pub turns-all : {after : List ℕ} {written : ℕ} → Written (records t (consistent (timingOf t weights kept))) answer after written
+    pub turns-all : {after : List ℕ} {written : ℕ} → Written (shownIn (length answer) (records t (consistent (timingOf t weights kept)))) answer after written
         → Decided t answer₀ after (record { number = 0; place = 0; written = written })
     turns-all w = record {
       answer = consistent (timingOf t weights kept);

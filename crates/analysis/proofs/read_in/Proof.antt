@@ -49,8 +49,7 @@ decide-requires : tie.Need-decide-requires
 decide-requires c κs =
     let at-if1 = c .before .before .before .before .before in
     let at-read-table = at-if1 .before .before .before .before .before .before in
-    let entry = at-read-table .before .before .before .before .before .before .before in
-    (formed-read _ (at-read-table .read-table .ensures) (at-if1 .if1 .left), entry .pre .1)
+    formed-read _ (at-read-table .read-table .ensures) (at-if1 .if1 .left)
 
 same-length-3 : tie.Need-same-length-3
 same-length-3 c = search needs
@@ -68,7 +67,7 @@ returns-2 c =
     let entry = at-read-table .before .before .before .before .before .before .before in
     let read = at-read-table .read-table .ensures in
     let decided = c .before .before .decide .ensures in
-    (analysed-decided _ (table-read read) (sym (read .number) ∙ at-if1 .if1 .left) (entry .pre .1) decided, written-room (formed-read _ read (at-if1 .if1 .left)) decided)
+    (analysed-decided _ (table-read read) (sym (read .number) ∙ at-if1 .if1 .left) (entry .pre .1) decided, written-room (formed-read _ read (at-if1 .if1 .left)) (entry .pre .1) decided)
 
 pub read-in-spec : {M : Type 1} → statement M
 read-in-spec =

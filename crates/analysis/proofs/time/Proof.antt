@@ -22,7 +22,7 @@ sort-members-requires : tie.Need-sort-members-requires
 sort-members-requires c κs =
     let at-count = c .before .before .before .before in
     let entry = at-count .before .before .before .before in
-    (labels-sortable (entry .pre .0), (at-count .count .ensures, (omega (arith, entry .pre .0 .components .long, entry .pre .0 .well-formed .few-ports), (omega (arith, entry .pre .0 .well-formed .few-ports), refl))))
+    (labels-sortable (entry .pre), (at-count .count .ensures, (omega (arith, entry .pre .components .long, entry .pre .well-formed .few-ports), (omega (arith, entry .pre .well-formed .few-ports), refl))))
 
 slice-aggregate-time-small : tie.Need-slice-aggregate-time-small
 slice-aggregate-time-small c = search needs
@@ -31,7 +31,7 @@ time-small-requires : tie.Need-time-small-requires
 time-small-requires c κs =
     let at-sort-members = c .before .before .before .before .before .before in
     let entry = at-sort-members .before .before .before .before .before .before .before .before .before in
-    (entry .pre .0, (record { members₀ = _; most = _; sorted = at-sort-members .sort-members .ensures; both = refl; cleared = refl }, (omega (arith, at-sort-members .sort-members .ensures .most-is), (omega arith, entry .pre .1))))
+    (entry .pre, (record { members₀ = _; most = _; sorted = at-sort-members .sort-members .ensures; both = refl; cleared = refl }, (omega (arith, at-sort-members .sort-members .ensures .most-is), omega arith)))
 
 same-length : tie.Need-same-length
 same-length c = search needs
@@ -46,7 +46,7 @@ time-middle-requires : tie.Need-time-middle-requires
 time-middle-requires c κs =
     let at-sort-members = c .before .before .before .before .before .before .before in
     let entry = at-sort-members .before .before .before .before .before .before .before .before .before in
-    (entry .pre .0, (record { members₀ = _; most = _; sorted = at-sort-members .sort-members .ensures; both = refl; cleared = refl }, (omega (arith, at-sort-members .sort-members .ensures .most-is), (omega arith, entry .pre .1))))
+    (entry .pre, (record { members₀ = _; most = _; sorted = at-sort-members .sort-members .ensures; both = refl; cleared = refl }, (omega (arith, at-sort-members .sort-members .ensures .most-is), omega arith)))
 
 same-length-2 : tie.Need-same-length-2
 same-length-2 c = search needs
@@ -61,7 +61,7 @@ time-large-requires : tie.Need-time-large-requires
 time-large-requires c κs =
     let at-sort-members = c .before .before .before .before .before .before in
     let entry = at-sort-members .before .before .before .before .before .before .before .before .before in
-    (entry .pre .0, (record { members₀ = _; most = _; sorted = at-sort-members .sort-members .ensures; both = refl; cleared = refl }, entry .pre .1))
+    (entry .pre, record { members₀ = _; most = _; sorted = at-sort-members .sort-members .ensures; both = refl; cleared = refl })
 
 same-length-3 : tie.Need-same-length-3
 same-length-3 c = search needs

@@ -21,7 +21,7 @@ slice-aggregate-sort-connections-2 c = search needs
 sort-connections-requires : tie.Need-sort-connections-requires
 sort-connections-requires c κs =
     let entry = c .before .before .before .before .before .before .before .before in
-    (entry .pre .0 .well-formed, (entry .pre .0 .components, (omega (arith, entry .pre .0 .well-formed .few-links), (omega (arith, entry .pre .0 .well-formed .few-links), entry .pre .1 .0 .cleared))))
+    (entry .pre .0 .well-formed, (entry .pre .0 .components, (omega (arith, entry .pre .0 .well-formed .few-links), (omega (arith, entry .pre .0 .well-formed .few-links), entry .pre .1 .cleared))))
 
 slice-aggregate-time-all : tie.Need-slice-aggregate-time-all
 slice-aggregate-time-all c = search needs
@@ -34,7 +34,7 @@ time-all-requires c κs =
     let at-sort-connections = c .before .before .before .before .before .before in
     let at-work-room = at-sort-connections .before .before .before .before in
     let entry = at-work-room .before .before .before .before .before in
-    (table-slices 64 256 (entry .pre .0) (entry .pre .1 .0) (most-members (entry .pre .0)) (entry .pre .0 .well-formed .few-links) (at-work-room .work-room .ensures) (at-sort-connections .sort-connections .ensures), entry .pre .1 .1)
+    table-slices 64 256 (entry .pre .0) (entry .pre .1) (most-members (entry .pre .0)) (entry .pre .0 .well-formed .few-links) (at-work-room .work-room .ensures) (at-sort-connections .sort-connections .ensures)
 
 same-length : tie.Need-same-length
 same-length c = search needs

@@ -18,7 +18,7 @@ slice-aggregate-sort-connections-2 c = search needs
 sort-connections-requires : tie.Need-sort-connections-requires
 sort-connections-requires c κs =
     let entry = c .before .before .before .before .before .before .before in
-    (entry .pre .0 .well-formed, (entry .pre .0 .components, (omega (arith, entry .pre .1 .1 .1 .0), (omega (arith, entry .pre .1 .1 .1 .0), entry .pre .1 .0 .cleared))))
+    (entry .pre .0 .well-formed, (entry .pre .0 .components, (omega (arith, entry .pre .1 .1 .1), (omega (arith, entry .pre .1 .1 .1), entry .pre .1 .0 .cleared))))
 
 slice-aggregate-time-all : tie.Need-slice-aggregate-time-all
 slice-aggregate-time-all c = search needs
@@ -30,7 +30,7 @@ time-all-requires : tie.Need-time-all-requires
 time-all-requires c κs =
     let at-sort-connections = c .before .before .before .before .before .before in
     let entry = at-sort-connections .before .before .before .before .before .before .before .before in
-    (table-slices 3 8 (entry .pre .0) (entry .pre .1 .0) (entry .pre .1 .1 .0) (entry .pre .1 .1 .1 .0) (refl) (at-sort-connections .sort-connections .ensures), entry .pre .1 .1 .1 .1)
+    table-slices 3 8 (entry .pre .0) (entry .pre .1 .0) (entry .pre .1 .1 .0) (entry .pre .1 .1 .1) refl (at-sort-connections .sort-connections .ensures)
 
 same-length : tie.Need-same-length
 same-length c = search needs

@@ -6,7 +6,7 @@ use Rattle.specification.specs.Table.{noLink}
 use Rattle.specification.specs.Encoding.{encodeLink}
 use Rattle.table.specs.Slices.{linksOf}
 use Rattle.encoding.specs.EncodingLaws.{links-most}
-use Rattle.encoding.proofs.SoFar.{Counted, counted-none, counted-most, counted-on, counted-all}
+use Rattle.encoding.specs.SoFar.{Counted, counted-none, counted-most, counted-on, counted-all}
 use borrow.Author.Needs.{needs}
 use Rattle.encoding.proofs.links_size.Statement.{statement}
 use Rattle.encoding.proofs.links_size.Tie as tie

@@ -5,7 +5,7 @@ use lib.ListN.{length, length-take, length-drop}
 use Rattle.specification.specs.Table.{noLink}
 use Rattle.specification.specs.Encoding.{encodeLink}
 use Rattle.table.specs.Slices.{linksOf}
-use Rattle.encoding.proofs.SoFar.{WrittenFirst, written-none, next-room, written-on, written-all}
+use Rattle.encoding.specs.SoFar.{WrittenFirst, written-none, next-room, written-on, written-all}
 use borrow.Author.Needs.{needs}
 use Rattle.encoding.proofs.write_links.Statement.{statement}
 use Rattle.encoding.proofs.write_links.Tie as tie

@@ -6,7 +6,7 @@ use Rattle.specification.specs.Table.{noPort}
 use Rattle.specification.specs.Encoding.{encodePort}
 use Rattle.table.specs.Slices.{portsOf}
 use Rattle.encoding.specs.EncodingLaws.{port-length}
-use Rattle.encoding.proofs.SoFar.{WrittenFirst, written-none, next-room, written-on, written-all}
+use Rattle.encoding.specs.SoFar.{WrittenFirst, written-none, next-room, written-on, written-all}
 use borrow.Author.Needs.{needs}
 use Rattle.encoding.proofs.write_ports.Statement.{statement}
 use Rattle.encoding.proofs.write_ports.Tie as tie
@@ -23,12 +23,6 @@ count-requires c κs = search needs
 loop-holds : tie.Need-loop-holds Inv-loop μ-loop
 loop-holds c = written-none (c .before .before .before .pre)
 
-num-requires : tie.Need-num-requires Inv-loop μ-loop
-num-requires c κs = search needs
-
-den-requires : tie.Need-den-requires Inv-loop μ-loop
-den-requires c κs = search needs
-
 sub-write-port : tie.Need-sub-write-port Inv-loop μ-loop
 sub-write-port c = search needs
 
@@ -38,13 +32,16 @@ part-write-port-start c = search needs
 part-write-port-end : tie.Need-part-write-port-end Inv-loop μ-loop
 part-write-port-end c = search needs
 
+at-requires : tie.Need-at-requires Inv-loop μ-loop
+at-requires c κs = search needs
+
 write-port-requires : tie.Need-write-port-requires Inv-loop μ-loop
 write-port-requires c κs =
-    let room = rw port-length at (next-room (c .before .before .before .before .loop .inv) (omega arith)) in
+    let room = rw port-length at (next-room (c .before .before .before .loop .inv) (omega arith)) in
     simp (length-take, length-drop) (omega arith)
 
 add-at : tie.Need-add-at Inv-loop μ-loop
-add-at c = let w = written-on (c .before .before .before .before .before .before .before .loop .inv) (omega arith) (rw (c .before .before .before .before .before .num .ensures, c .before .before .before .before .den .ensures) at (c .before .before .write-port .ensures)) in omega (arith, w .inside)
+add-at c = let w = written-on (c .before .before .before .before .before .before .loop .inv) (omega arith) (rw (c .before .before .before .at .ensures) at (c .before .before .write-port .ensures)) in omega (arith, w .inside)
 
 add-p : tie.Need-add-p Inv-loop μ-loop
 add-p c = search needs
@@ -53,7 +50,7 @@ loop-less : tie.Need-loop-less Inv-loop μ-loop
 loop-less c = search needs
 
 loop-again : tie.Need-loop-again Inv-loop μ-loop
-loop-again c = written-on (c .before .before .before .before .before .before .before .loop .inv) (omega arith) (rw (c .before .before .before .before .before .num .ensures, c .before .before .before .before .den .ensures) at (c .before .before .write-port .ensures))
+loop-again c = written-on (c .before .before .before .before .before .before .loop .inv) (omega arith) (rw (c .before .before .before .at .ensures) at (c .before .before .write-port .ensures))
 
 same-length : tie.Need-same-length Inv-loop μ-loop
 same-length c = search needs
@@ -69,11 +66,10 @@ write-ports-spec =
     μ-loop
     count-requires
     loop-holds
-    num-requires
-    den-requires
     sub-write-port
     part-write-port-start
     part-write-port-end
+    at-requires
     write-port-requires
     add-at
     add-p

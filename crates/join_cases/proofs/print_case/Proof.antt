@@ -50,38 +50,8 @@ slice-aggregate-print-number-3 c = search needs
 print-number-requires-3 : tie.Need-print-number-requires-3
 print-number-requires-3 c κs = search needs
 
-slice-aggregate-print-number-4 : tie.Need-slice-aggregate-print-number-4
-slice-aggregate-print-number-4 c = search needs
-
-print-number-requires-4 : tie.Need-print-number-requires-4
-print-number-requires-4 c κs = search needs
-
-sub-changed : tie.Need-sub-changed
-sub-changed c = search needs
-
-part-changed-start : tie.Need-part-changed-start
-part-changed-start c = search needs
-
-part-changed-end : tie.Need-part-changed-end
-part-changed-end c = search needs
-
-changed-requires : tie.Need-changed-requires
-changed-requires c κs = search needs
-
-slice-aggregate-print-number-5 : tie.Need-slice-aggregate-print-number-5
-slice-aggregate-print-number-5 c = search needs
-
-print-number-requires-5 : tie.Need-print-number-requires-5
-print-number-requires-5 c κs = search needs
-
-slice-reshare-prefix-write-all : tie.Need-slice-reshare-prefix-write-all
-slice-reshare-prefix-write-all c = search needs
-
-slice-aggregate-write-all : tie.Need-slice-aggregate-write-all
-slice-aggregate-write-all c = simp length-take (omega arith)
-
-write-all-requires : tie.Need-write-all-requires
-write-all-requires c κs = search needs
+print-written-requires : tie.Need-print-written-requires
+print-written-requires c κs = search needs
 
 same-length : tie.Need-same-length
 same-length c = search needs
@@ -108,16 +78,6 @@ print-case-spec =
     print-number-requires-2
     slice-aggregate-print-number-3
     print-number-requires-3
-    slice-aggregate-print-number-4
-    print-number-requires-4
-    sub-changed
-    part-changed-start
-    part-changed-end
-    changed-requires
-    slice-aggregate-print-number-5
-    print-number-requires-5
-    slice-reshare-prefix-write-all
-    slice-aggregate-write-all
-    write-all-requires
+    print-written-requires
     same-length
     returns)

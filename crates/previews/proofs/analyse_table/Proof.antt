@@ -25,7 +25,7 @@ decide-requires : tie.Need-decide-requires
 decide-requires c κs =
     let counted = c .before .before in
     let entry = counted .before .before .before .before .before in
-    (writable-formed (entry .pre) (pos-of-ne-zero (λ e. c .before .if2 .left (counted .count .ensures ∙ e))), omega (arith, counted .before .if1 .left))
+    writable-formed (entry .pre) (pos-of-ne-zero (λ e. c .before .if2 .left (counted .count .ensures ∙ e)))
 
 same-length : tie.Need-same-length
 same-length c = search needs

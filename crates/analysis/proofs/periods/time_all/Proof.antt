@@ -36,10 +36,10 @@ count-requires : tie.Need-count-requires Inv-loop μ-loop
 count-requires c κs = search needs
 
 loop-holds : tie.Need-loop-holds Inv-loop μ-loop
-loop-holds c = (turns-first _ (c .before .before .before .before .before .before .before .pre .0) refl, refl)
+loop-holds c = (turns-first _ (c .before .before .before .before .before .before .before .pre) refl, refl)
 
 mul-member-end : tie.Need-mul-member-end Inv-loop μ-loop
-mul-member-end c = omega (arith, c .before .before .before .before .before .before .before .before .before .pre .0 .labelled .well-formed .few-ports)
+mul-member-end c = omega (arith, c .before .before .before .before .before .before .before .before .before .pre .labelled .well-formed .few-ports)
 
 index-1-member-end : tie.Need-index-1-member-end Inv-loop μ-loop
 index-1-member-end c = search needs
@@ -47,12 +47,12 @@ index-1-member-end c = search needs
 index-2-member-end : tie.Need-index-2-member-end Inv-loop μ-loop
 index-2-member-end c =
     let entry = c .before .before .before .before .before .before .before .before .before in
-    omega (arith, entry .pre .0 .labelled .well-formed .few-ports)
+    omega (arith, entry .pre .labelled .well-formed .few-ports)
 
 mul-number-end : tie.Need-mul-number-end Inv-loop μ-loop
 mul-number-end c =
     let entry = c .before .before .before .before .before .before .before .before .before .before in
-    omega (arith, entry .pre .0 .labelled .well-formed .few-ports)
+    omega (arith, entry .pre .labelled .well-formed .few-ports)
 
 index-1-number-end : tie.Need-index-1-number-end Inv-loop μ-loop
 index-1-number-end c = search needs
@@ -60,7 +60,7 @@ index-1-number-end c = search needs
 index-2-number-end : tie.Need-index-2-number-end Inv-loop μ-loop
 index-2-number-end c =
     let entry = c .before .before .before .before .before .before .before .before .before .before in
-    omega (arith, entry .pre .0 .labelled .well-formed .few-ports)
+    omega (arith, entry .pre .labelled .well-formed .few-ports)
 
 mul-time-one : tie.Need-mul-time-one Inv-loop μ-loop
 mul-time-one c = omega (arith, members-part (c .before .before .before .before .loop .inv .0) (omega arith))
@@ -93,8 +93,7 @@ time-one-requires : tie.Need-time-one-requires Inv-loop μ-loop
 time-one-requires c κs =
     let at-if1 = c .before .before .before .before .before in
     let at-loop = at-if1 .before .before .before .before in
-    let entry = at-loop .before .before .before .before .before .before .before .before in
-    (component-slices (at-loop .loop .inv .0) (omega arith) (at-if1 .if1 .taken), (omega (arith, part-room (at-loop .loop .inv .0) (omega arith) (at-if1 .if1 .taken), at-loop .loop .inv .1), (at-loop .loop .inv .0 .long, omega (arith, entry .pre .1, ap length (at-loop .loop .inv .0 .unchanged)))))
+    (component-slices (at-loop .loop .inv .0) (omega arith) (at-if1 .if1 .taken), (omega (arith, part-room (at-loop .loop .inv .0) (omega arith) (at-if1 .if1 .taken), at-loop .loop .inv .1), at-loop .loop .inv .0 .long))
 
 enum-told : tie.Need-enum-told Inv-loop μ-loop
 enum-told c = search needs
@@ -140,14 +139,13 @@ loop-again c =
     (λ w. (rw (w .2, w .3, w .4) (turns-skip (turns .0) (omega arith) (w .0 .left)), ap length (w .1) ∙ turns .1)))
     (c .if1 .came)
 
-slice-aggregate-write-consistent : tie.Need-slice-aggregate-write-consistent Inv-loop μ-loop
-slice-aggregate-write-consistent c = search needs
+slice-aggregate-show-consistent : tie.Need-slice-aggregate-show-consistent Inv-loop μ-loop
+slice-aggregate-show-consistent c = search needs
 
-write-consistent-requires : tie.Need-write-consistent-requires Inv-loop μ-loop
-write-consistent-requires c κs =
+show-consistent-requires : tie.Need-show-consistent-requires Inv-loop μ-loop
+show-consistent-requires c κs =
     let at-loop = c .before .before .before .before in
-    let entry = at-loop .before .before .before .before .before .before .before .before in
-    (all-numbers (at-loop .loop .inv .0) (omega arith) (c .before .before .if2 .taken), omega (arith, entry .pre .1, ap length (at-loop .loop .inv .0 .unchanged)))
+    all-numbers (at-loop .loop .inv .0) (omega arith) (c .before .before .if2 .taken)
 
 number-of-requires-2 : tie.Need-number-of-requires-2 Inv-loop μ-loop
 number-of-requires-2 c κs = search needs
@@ -162,10 +160,10 @@ same-length-4 c =
 
 returns-2 : tie.Need-returns-2 Inv-loop μ-loop
 returns-2 c =
-    let at-write-consistent = c .before .before .before in
-    let at-if2 = at-write-consistent .before .before .before in
+    let at-show-consistent = c .before .before .before in
+    let at-if2 = at-show-consistent .before .before .before in
     let at-loop = at-if2 .before .before in
-    rw (c .number-of2 .ensures) (turns-all (at-loop .loop .inv .0) (omega arith) (at-if2 .if2 .taken) (at-write-consistent .write-consistent .ensures))
+    rw (c .number-of2 .ensures) (turns-all (at-loop .loop .inv .0) (omega arith) (at-if2 .if2 .taken) (at-show-consistent .show-consistent .ensures))
 
 number-of-requires-3 : tie.Need-number-of-requires-3 Inv-loop μ-loop
 number-of-requires-3 c κs = search needs
@@ -213,8 +211,8 @@ time-all-spec =
     add-c
     loop-less
     loop-again
-    slice-aggregate-write-consistent
-    write-consistent-requires
+    slice-aggregate-show-consistent
+    show-consistent-requires
     number-of-requires-2
     same-length-3
     same-length-4

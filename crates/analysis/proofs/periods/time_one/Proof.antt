@@ -26,7 +26,7 @@ slice-aggregate-keep c = search needs
 keep-requires : tie.Need-keep-requires
 keep-requires c κs =
     let entry = c .before .before .before .before .before .before .before .before .before .before .before .before .before .before in
-    (members-of (entry .pre .0), entry .pre .1 .1 .0)
+    (members-of (entry .pre .0), entry .pre .1 .1)
 
 same-length : tie.Need-same-length
 same-length c = search needs
@@ -90,7 +90,7 @@ part-keep-end c =
 keep-requires-2 : tie.Need-keep-requires-2
 keep-requires-2 c κs =
     let entry = c .before .before .before .before .before .before .before .before .before .before .before .before .before .before .before .before .before .before .before .before in
-    (members-of (entry .pre .0), entry .pre .1 .1 .0)
+    (members-of (entry .pre .0), entry .pre .1 .1)
 
 enum-told : tie.Need-enum-told
 enum-told c = search needs
@@ -98,11 +98,11 @@ enum-told c = search needs
 enum-told-2 : tie.Need-enum-told-2
 enum-told-2 c = search needs
 
-write-blocked-requires : tie.Need-write-blocked-requires
-write-blocked-requires c κs =
+show-blocked-requires : tie.Need-show-blocked-requires
+show-blocked-requires c κs =
     let at-least-period = c .before .before .before .before .before in
     let entry = at-least-period .before .before .before .before .before .before .before .before .before .before .before in
-    (named (entry .pre .0) (at-least-period .least-period .ensures .0) (c .before .enum-told2 .given .1), omega (arith, entry .pre .1 .1 .1))
+    named (entry .pre .0) (at-least-period .least-period .ensures .0) (c .before .enum-told2 .given .1)
 
 same-length-3 : tie.Need-same-length-3
 same-length-3 c = search needs
@@ -137,7 +137,7 @@ returns-5 c =
     let at-enum-told2 = c .before .before .before .before in
     let at-least-period = at-enum-told2 .before .before .before .before in
     let entry = at-least-period .before .before .before .before .before .before .before .before .before .before .before in
-    shown (entry .pre .0) (at-least-period .least-period .ensures .0) _ (at-enum-told2 .enum-told2 .given .1) (c .before .before .write-blocked .ensures)
+    shown (entry .pre .0) (at-least-period .least-period .ensures .0) _ (at-enum-told2 .enum-told2 .given .1) (c .before .before .show-blocked .ensures)
 
 pub time-one-spec : {M : Type 1} → statement M
 time-one-spec =
@@ -163,7 +163,7 @@ time-one-spec =
     keep-requires-2
     enum-told
     enum-told-2
-    write-blocked-requires
+    show-blocked-requires
     same-length-3
     same-length-4
     returns-3

@@ -3,7 +3,8 @@ use mathlib.Core.Path.{_≡_, sym, ap, _∙_}
 use native.Mathlib.Omega.{arith}
 use native.Mathlib.Nat.{mod-lt}
 use borrow.Author.Needs.{needs}
-use Rattle.numbers.specs.Gcd.{gcd, gcd-zero, gcd-rest}
+use Rattle.numbers.specs.Divisors.{gcd}
+use Rattle.numbers.specs.Gcd.{gcd-zero, gcd-rest}
 use Rattle.fraction.proofs.euclid.greatest_common_divisor.Statement.{statement}
 use Rattle.fraction.proofs.euclid.greatest_common_divisor.Tie as tie
 

@@ -1,0 +1,3 @@
+-- What the hide program writes.
+pub mod PortArgument
+pub mod HideReport

@@ -1,0 +1,2 @@
+-- What hiding a port comes to.
+pub mod Hides

@@ -1,0 +1,2 @@
+-- Hiding by computation.
+mod Examples

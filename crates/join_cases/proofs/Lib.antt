@@ -1,2 +1,0 @@
--- What the proof of `changed` uses.
-mod Counting

@@ -1,2 +1,0 @@
--- What the program counts.
-pub mod Changed

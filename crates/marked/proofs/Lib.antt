@@ -1,0 +1,2 @@
+-- What the loops over a room use.
+mod Counting

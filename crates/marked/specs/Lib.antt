@@ -1,0 +1,2 @@
+-- What a room is looked at for.
+pub mod Changed
