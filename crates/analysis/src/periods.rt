@@ -43,7 +43,7 @@ fn keep(members: &[u64], period: Fraction, starts: &[u64], kept: &mut [u64])
 
 // What timing comes to: the least periods and starts are kept; there are periods but no least; or a floor and a block are shown in so many
 // bytes of the answer.
-#[derive(Drop)]
+#[derive(Clone, Copy)]
 pub enum Timed {
     Least,
     NoLeast,

@@ -7,7 +7,7 @@ ghost use Rattle.exponents.specs.Factor.{Lent, IsFactor};
 
 use crate::wide;
 
-#[derive(Drop)]
+#[derive(Clone, Copy)]
 pub struct Factor {
     pub prime: u64,
     pub place: usize,

@@ -1,4 +1,5 @@
 // The three files of a join, read in turn: how much of each is given, how the first that was not read whole ended, and the line of it.
+#![tactic(auto)]
 ghost use Rattle.std.specs.Prelude.{◌≡◌, cond, ◌≤◌, length};
 ghost use Rattle.specification.specs.Bytes.{Written};
 ghost use Rattle.files.specs.Files.{whole_file, stop_failed, in_turn, GivenAtMost, line_of, line_room};
@@ -7,7 +8,7 @@ use input::Input;
 use text::print;
 
 // How many bytes of each file are given; whether all were read whole; and whether a read failed of the first that was not.
-#[derive(Drop)]
+#[derive(Clone, Copy)]
 pub struct InTurn {
     pub first: usize,
     pub second: usize,
@@ -71,7 +72,7 @@ pub fn in_turn(first: Input, second: Input, added: Input) -> InTurn
 }
 
 // How many bytes at the front of a program's two buffers are the table and the line that it writes.
-#[derive(Drop)]
+#[derive(Clone, Copy)]
 pub struct Lengths {
     pub written: usize,
     pub line: usize,

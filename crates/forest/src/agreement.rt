@@ -12,7 +12,7 @@ use specification::Link;
 use table::links;
 
 // The link over which a port was reached, if one was.
-#[derive(Drop)]
+#[derive(Clone, Copy)]
 struct Over {
     reached: bool,
     link: usize,

@@ -7,7 +7,7 @@ ghost use Rattle.forest.specs.Climb.{Climbable, Parent, DownRoom, Met};
 use table::links;
 
 // The step from a port to its parent.
-#[derive(Drop)]
+#[derive(Clone, Copy)]
 struct Up {
     link: usize,
     against: u64,
@@ -15,7 +15,7 @@ struct Up {
 }
 
 // The places behind the steps up, and of the first step down.
-#[derive(Drop)]
+#[derive(Clone, Copy)]
 struct Places {
     next: usize,
     first: usize,

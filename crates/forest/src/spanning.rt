@@ -12,14 +12,14 @@ use exponents::row::Row;
 use table::{links, ports};
 
 // The order in which the ports were reached, from 1 on, and the link over which each was.
-#[derive(Drop)]
+#[derive(Clone, Copy)]
 pub struct Forest {
     pub reach: [usize; 64],
     pub via: [usize; 64],
 }
 
 // A link from its end `from` to its end `to`: the row of `to` is that of `from` times `times`, divided by `by`.
-#[derive(Drop)]
+#[derive(Clone, Copy)]
 struct Crossing {
     link: usize,
     from: usize,

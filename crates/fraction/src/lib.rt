@@ -1,4 +1,6 @@
 // Exact fractions, never negative: what periods and starts are made of.
+#![tactic(auto)]
+
 ghost use Rattle.std.specs.Prelude.{◌≡◌, ◌*◌, ◌^◌, ◌<◌, true};
 ghost use Rattle.numbers.specs.Divisors.{Coprime};
 ghost use Rattle.fraction.specs.Lowest.{lowest_terms, less_than, Narrow};
@@ -6,7 +8,7 @@ ghost use Rattle.fraction.specs.Lowest.{lowest_terms, less_than, Narrow};
 mod euclid;
 mod wide;
 
-#[derive(Drop)]
+#[derive(Clone, Copy)]
 pub struct Fraction {
     pub num: u64,
     pub den: u64,

@@ -13,7 +13,7 @@ use specification::{Link, Port, limits};
 use table::ports;
 
 // Whether the sender's rate is lowered, the number of that sender, and the rate that it then has.
-#[derive(Drop)]
+#[derive(Clone, Copy)]
 pub struct Limit {
     pub lowers: bool,
     pub sender: usize,

@@ -9,7 +9,7 @@ ghost use Rattle.hidden.specs.Sides.{on_side, picked, Numbers, Gathered};
 use specification::Link;
 use table::links;
 
-#[derive(Drop)]
+#[derive(Clone, Copy)]
 pub enum Side {
     Into,
     From,

@@ -15,7 +15,7 @@ use fraction::Fraction;
 use specification::{Link, Ticks, limits};
 
 // A new connection whose values may leave their ranges.
-#[derive(Drop)]
+#[derive(Clone, Copy)]
 pub struct Made {
     pub from: usize,
     pub to: usize,
@@ -26,7 +26,7 @@ pub struct Made {
 }
 
 // An amount of events forward, one back, and the denominator of both.
-#[derive(Drop)]
+#[derive(Clone, Copy)]
 pub struct Delta {
     pub forward: u64,
     pub back: u64,

@@ -1,6 +1,7 @@
 // Prints what each of the hidings on standard input comes to. A case is the port in eight bytes, the room for the table and the length of the
 // given one in four bytes each, then that table. The room is filled with one byte before each call. Printed are what is returned and how many
 // bytes behind the written ones changed, then the written ones.
+#![tactic(auto)]
 ghost use Rattle.std.specs.Prelude.{◌≡◌, length};
 
 use marked::print_number;

@@ -1,9 +1,10 @@
 // Reading an input into a buffer, and whether it was read whole.
+#![tactic(auto)]
 ghost use Rattle.std.specs.Prelude.{◌≡◌, true, ◌+◌, ◌^◌, ◌≤◌, ◌<◌, length};
 ghost use Rattle.input.specs.Input.{read_whole, AfterRead, Onward};
 
 // How many bytes stand at the front of the buffer, whether more may come, and whether a read failed.
-#[derive(Drop)]
+#[derive(Clone, Copy)]
 pub struct Input {
     pub count: usize,
     pub more: bool,

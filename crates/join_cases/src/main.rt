@@ -1,6 +1,7 @@
 // Prints what each of the joins and previews on standard input comes to. A case is five numbers of four bytes: the call, 0 a join and 1 a
 // preview, the room for the table or the answer, and the lengths of the three inputs; then the inputs. The room is filled with one byte before
 // each call. Printed are what is returned and how many bytes behind the written ones changed, then the written ones.
+#![tactic(auto)]
 ghost use Rattle.std.specs.Prelude.{◌≤◌, ◌≡◌, length};
 
 use marked::print_number;
@@ -35,7 +36,7 @@ fn run(space: &mut [u8], room: &mut [u8])
 }
 
 // The numbers at the front of a case; the second input and the added records begin at these places behind them.
-#[derive(Drop)]
+#[derive(Clone, Copy)]
 struct Case {
     call: u64,
     room: usize,

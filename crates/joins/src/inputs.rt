@@ -8,7 +8,7 @@ use specification::{Before, JoinOutcome};
 use table::reading;
 
 // The number, place and input of the first fault, 0 where there is none, and how many ports and links the slices hold.
-#[derive(Drop)]
+#[derive(Clone, Copy)]
 pub struct Inputs {
     pub number: u64,
     pub place: usize,

@@ -6,7 +6,7 @@ ghost use Rattle.period.specs.Sums.{Summing, SumsOf};
 use crate::edge;
 use specification::{Events, Ticks};
 
-#[derive(Drop)]
+#[derive(Clone, Copy)]
 pub struct Sums {
     pub ticks: Ticks,
     pub events: Events,

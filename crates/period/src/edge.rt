@@ -6,7 +6,7 @@ ghost use Rattle.period.specs.Edges.{edges_of, Weighable, EdgeReadable, EdgeAt};
 use specification::{Events, Ticks};
 use table::links;
 
-#[derive(Drop)]
+#[derive(Clone, Copy)]
 pub struct Edge {
     pub from: u64,
     pub to: u64,

@@ -1,4 +1,5 @@
 // The least period of a component, or why there is none.
+#![tactic(auto)]
 mod cycle;
 pub mod delay;
 mod edge;

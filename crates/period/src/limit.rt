@@ -9,7 +9,7 @@ use fraction::Fraction;
 use table::ports;
 
 // What stands under every period: the rate limit of a port; the lower limit of a cycle, which stands beside it; or zero.
-#[derive(Drop)]
+#[derive(Clone, Copy)]
 pub enum Floor {
     Rate(u64),
     Lower,
@@ -17,7 +17,7 @@ pub enum Floor {
 }
 
 // A floor, and its value in lowest terms.
-#[derive(Drop)]
+#[derive(Clone, Copy)]
 pub struct Limit {
     pub floor: Floor,
     pub value: Fraction,

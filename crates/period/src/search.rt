@@ -18,21 +18,21 @@ use rounds::starts::RoundsEnd;
 use rounds::{back, starts};
 
 // The edges of a cycle: a part of the steps.
-#[derive(Drop)]
+#[derive(Clone, Copy)]
 pub struct Cycle {
     pub steps: [u64; 64],
     pub part: Part,
 }
 
 // How a search ends: with the least period, with periods but no least, or with a cycle that blocks every period.
-#[derive(Drop)]
+#[derive(Clone, Copy)]
 pub enum SearchEnd {
     Least(Fraction),
     NoLeast,
     Blocked,
 }
 
-#[derive(Drop)]
+#[derive(Clone, Copy)]
 pub struct Search {
     pub end: SearchEnd,
     pub floor: Floor,
@@ -73,7 +73,7 @@ fn settled_end(floor: Floor, period: Fraction) -> SearchEnd
 }
 
 // What one a/b ends with: the rounds that changed something, or a part of the steps that is a cycle positive there.
-#[derive(Drop)]
+#[derive(Clone, Copy)]
 enum Tried {
     Settled(usize),
     Gaining(Part),

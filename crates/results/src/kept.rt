@@ -3,7 +3,7 @@ ghost use Rattle.std.specs.Prelude.{◌<◌, ◌≡◌, length};
 ghost use Rattle.results.specs.Kept.{kept_at};
 
 // The component, a, b and start times b of a port.
-#[derive(Drop)]
+#[derive(Clone, Copy)]
 pub struct Kept {
     pub component: u64,
     pub a: u64,

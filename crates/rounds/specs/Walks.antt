@@ -15,6 +15,7 @@ module _ {g : Graph} where
   join (step k m v) w = step k m (join v w)
 
   pub edges_of_lem : {p q : ℕ} {path : List ℕ} → Walk g p q path → (k : ℕ) → k ∈ path → g.IsEdge k
+  edges_of_lem stop k i = elim i [ ]
   edges_of_lem (step j m w) k (here e) = rw e m
   edges_of_lem (step j m w) k (there i) = edges_of_lem w k i
 

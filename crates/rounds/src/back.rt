@@ -4,7 +4,7 @@ ghost use Rattle.rounds.specs.Tight.{TightEdge, SomeTight};
 ghost use Rattle.rounds.specs.Back.{EveryRoundRaises, FoundCycle};
 
 // The steps from first up to last, not last itself.
-#[derive(Drop)]
+#[derive(Clone, Copy)]
 pub struct Part {
     pub first: usize,
     pub last: usize,

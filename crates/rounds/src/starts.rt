@@ -8,7 +8,7 @@ ghost use Rattle.rounds.specs.Advance.{with_row, Ahead, Advanced};
 // The ports of a row, and what a round that raised none returns.
 const WIDTH: usize = 64;
 
-#[derive(Drop)]
+#[derive(Clone, Copy)]
 pub enum RoundsEnd {
     // So many rounds changed something, and the next changed nothing.
     Settled(usize),

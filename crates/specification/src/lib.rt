@@ -1,16 +1,17 @@
 // What document 01 says, as definitions (specs/), and the types that they and the code share. No function stands here.
+#![tactic(auto)]
 pub mod limits;
 
 // A span of time in ticks: an amount forward and an amount back.
-#[derive(Drop)]
+#[derive(Clone, Copy)]
 pub struct Ticks(pub u64, pub u64);
 
 // A number of events: an amount forward and an amount back.
-#[derive(Drop)]
+#[derive(Clone, Copy)]
 pub struct Events(pub u64, pub u64);
 
 // A port; its maximum rate is num / den events per tick, or 0 / 0 where it has none of its own.
-#[derive(Drop)]
+#[derive(Clone, Copy)]
 pub struct Port {
     pub num: u64,
     pub den: u64,
@@ -18,7 +19,7 @@ pub struct Port {
 
 // A connection or a buffer. Its ratio is num / den, its number of events `events` divided by `over`. The kind is that of its record: 2 a
 // connection, over 1; 3 a buffer, which has no events, over 1; 4 a connection whose number of events is a fraction.
-#[derive(Drop)]
+#[derive(Clone, Copy)]
 pub struct Link {
     pub from: usize,
     pub to: usize,
@@ -31,7 +32,7 @@ pub struct Link {
 }
 
 // What the delay that a buffer needs comes to, in events of its sender.
-#[derive(Drop)]
+#[derive(Clone, Copy)]
 pub enum Needed {
     // The delay is zero or less.
     Nothing,
@@ -42,7 +43,7 @@ pub enum Needed {
 }
 
 // What stands in the input before a record.
-#[derive(Drop)]
+#[derive(Clone, Copy)]
 pub struct Before {
     // The ports and links so far: for the limits.
     pub ports: usize,
@@ -53,7 +54,7 @@ pub struct Before {
 }
 
 // The record at a place, with the place behind it; a refusal with its number and the place where the record begins.
-#[derive(Drop)]
+#[derive(Clone, Copy)]
 pub enum Read {
     PortRecord(Port, usize),
     LinkRecord(Link, usize),
@@ -64,7 +65,7 @@ pub enum Read {
 // What a call of the analysis, or of hiding a port, returns: the number, the byte at which the faulty record begins, 0 where the number
 // concerns no record, and how many bytes of the buffer were written.
 #[repr(C)]
-#[derive(Drop)]
+#[derive(Clone, Copy)]
 pub struct Outcome {
     pub number: u64,
     pub place: usize,
@@ -75,7 +76,7 @@ pub struct Outcome {
 // the first, 2 the second, 3 the added records; place and input are 0 where the number concerns no record; and how many bytes of the buffer
 // were written.
 #[repr(C)]
-#[derive(Drop)]
+#[derive(Clone, Copy)]
 pub struct JoinOutcome {
     pub number: u64,
     pub place: usize,

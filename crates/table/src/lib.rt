@@ -1,4 +1,5 @@
 // The model table: ports, connections and buffers; reading one from bytes into two slices of numbers, `ports` and `links`.
+#![tactic(auto)]
 pub mod links;
 mod numbers;
 pub mod ports;

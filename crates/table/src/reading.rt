@@ -9,7 +9,7 @@ use specification::{Before, Link, Read};
 
 // The number of document 01, 0 where there is no fault; the place of the fault, 0 where there is none; and how many ports and links the
 // slices hold.
-#[derive(Drop)]
+#[derive(Clone, Copy)]
 pub struct Counts {
     pub number: u64,
     pub place: usize,

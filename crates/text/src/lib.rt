@@ -1,4 +1,5 @@
 // The printed form of an answer.
+#![tactic(auto)]
 mod lines;
 pub mod print;
 mod put;

@@ -97,8 +97,8 @@ module _ {t : Table} {labels : List ℕ} (formed : WellFormed t) (components : C
   -- ---- the conditions can always be gone through to the end
   scaled_rest : {n : ℕ} {w : ℕ → ℕ} (m : ℕ) → n + m ≡ 2 * link_count t → ScaledBy t n w → (v : ℕ → ℕ) × WholeWeights t v
   scaled_rest {n} {w} zero e s = let all : n ≡ 2 * link_count t = omega arith in (w, scaled_weights (rw all at s))
-  scaled_rest (suc m) e s =
-      scaled_rest m (omega arith) (scaling_times formed components s (condition_over (omega arith)) (condition_port (omega arith)))
+  scaled_rest {n} (suc m) e s =
+      scaled_rest {n = n + 1} m (omega arith) (scaling_times formed components s (condition_over (omega arith)) (condition_port (omega arith)))
 
   pub scaled_end : {n : ℕ} {w : ℕ → ℕ} → n ≤ 2 * link_count t → ScaledBy t n w → (v : ℕ → ℕ) × WholeWeights t v
   scaled_end {n} h s = scaled_rest (2 * link_count t - n) (omega arith) s

@@ -12,7 +12,7 @@ use forest::{agreement, loops, parts, spanning};
 use table::{links, ports};
 use ways::components;
 
-#[derive(Drop)]
+#[derive(Clone, Copy)]
 pub enum Agreement {
     // The ratios agree, and no weight passes 10,000.
     Agreeing,
@@ -33,7 +33,7 @@ pub fn number_of(agreement: Agreement) -> u64
     }
 }
 
-#[derive(Drop)]
+#[derive(Clone, Copy)]
 pub struct Ratios {
     pub agreement: Agreement,
     pub labels: [usize; 64],

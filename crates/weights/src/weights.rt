@@ -11,7 +11,7 @@ use specification::limits;
 use table::ports;
 
 // Whether no weight passes 10,000, and then the weights.
-#[derive(Drop)]
+#[derive(Clone, Copy)]
 pub struct Weighed {
     pub within: bool,
     pub weights: [u64; 64],
