@@ -1,5 +1,6 @@
 // The analysis: a table's bytes and an answer buffer to a number, its place and the bytes written.
 #![tactic(auto)]
+
 ghost use Rattle.std.specs.Prelude.{◌≤◌, length, replicate, ◌≡◌};
 ghost use Rattle.specification.specs.Answers.{least_room};
 ghost use Rattle.table.specs.Filled.{Room};

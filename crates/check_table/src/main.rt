@@ -1,5 +1,6 @@
 // The check program: reads a table from standard input and prints the printed form of document 01.
 #![tactic(auto)]
+
 fn main() {
     let mut space = input::room();
     let mut text = io::large_buffer();

@@ -1,5 +1,6 @@
 // A table in slices as bytes: how many there are, and the records, one behind the other.
 #![tactic(auto)]
+
 ghost use Rattle.std.specs.Prelude.{◌≡◌, ◌≤◌, ◌<◌, length, get_or};
 ghost use Rattle.specification.specs.Bytes.{Written};
 ghost use Rattle.specification.specs.Table.{no_link};

@@ -1,5 +1,6 @@
 // The numbers from 1 to 1,000 as rows of prime exponents.
 #![tactic(auto)]
+
 ghost use Rattle.std.specs.Prelude.{◌≡◌};
 
 pub mod divisors;

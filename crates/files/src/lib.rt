@@ -1,5 +1,6 @@
 // The three files of a join, read in turn: how much of each is given, how the first that was not read whole ended, and the line of it.
 #![tactic(auto)]
+
 ghost use Rattle.std.specs.Prelude.{◌≡◌, cond, ◌≤◌, length};
 ghost use Rattle.specification.specs.Bytes.{Written};
 ghost use Rattle.files.specs.Files.{whole_file, stop_failed, in_turn, GivenAtMost, line_of, line_room};

@@ -1,5 +1,6 @@
 // A table in slices without one of its ports, as bytes: 18, 19, 7 and 16, or the records of the hidden table.
 #![tactic(auto)]
+
 ghost use Rattle.std.specs.Prelude.{◌≡◌};
 ghost use Rattle.table.specs.Slices.{table_of};
 ghost use Rattle.table.specs.WellFormed.{WellFormed};

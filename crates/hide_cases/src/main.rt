@@ -2,6 +2,7 @@
 // given one in four bytes each, then that table. The room is filled with one byte before each call. Printed are what is returned and how many
 // bytes behind the written ones changed, then the written ones.
 #![tactic(auto)]
+
 ghost use Rattle.std.specs.Prelude.{◌≡◌, length};
 
 use marked::print_number;

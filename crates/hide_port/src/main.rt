@@ -1,5 +1,6 @@
 // The hide program: hides the port that its argument names in the table on standard input, and writes the table without it.
 #![tactic(auto)]
+
 fn main() {
     let mut name = io::buffer();
     let mut space = input::room();

@@ -1,5 +1,6 @@
 // Hiding a port: the table's own answer, whose refusal comes first, then the table without the port, as bytes.
 #![tactic(auto)]
+
 ghost use Rattle.std.specs.Prelude.{length};
 ghost use Rattle.specification.specs.Reading.{start};
 ghost use Rattle.specification.specs.Hiding.{HideReturned};

@@ -1,5 +1,6 @@
 // Reading an input into a buffer, and whether it was read whole.
 #![tactic(auto)]
+
 ghost use Rattle.std.specs.Prelude.{◌≡◌, true, ◌+◌, ◌^◌, ◌≤◌, ◌<◌, length};
 ghost use Rattle.input.specs.Input.{read_whole, AfterRead, Onward};
 

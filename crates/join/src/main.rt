@@ -1,5 +1,6 @@
 // The join program: joins the tables and the added records of three named files, FIRST SECOND ADDED, and writes the joined table.
 #![tactic(auto)]
+
 fn main() {
     let mut first = input::room();
     let mut second = input::room();

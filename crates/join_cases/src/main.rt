@@ -2,6 +2,7 @@
 // preview, the room for the table or the answer, and the lengths of the three inputs; then the inputs. The room is filled with one byte before
 // each call. Printed are what is returned and how many bytes behind the written ones changed, then the written ones.
 #![tactic(auto)]
+
 ghost use Rattle.std.specs.Prelude.{◌≤◌, ◌≡◌, length};
 
 use marked::print_number;

@@ -1,5 +1,6 @@
 // What the join program writes: the joined table, or the line that says why there is none, over slices.
 #![tactic(auto)]
+
 ghost use Rattle.std.specs.Prelude.{◌≤◌, length};
 ghost use Rattle.specification.specs.Encoding.{most_table_bytes};
 ghost use Rattle.files.specs.Files.{file_of, ReadInto, line_room};

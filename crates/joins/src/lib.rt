@@ -1,5 +1,6 @@
 // Joins two tables and added connections and buffers to one table.
 #![tactic(auto)]
+
 ghost use Rattle.std.specs.Prelude.{◌≤◌, length};
 ghost use Rattle.specification.specs.Encoding.{encode_table};
 ghost use Rattle.specification.specs.Joining.{joined, fitted, join_into, JoinReturned};

@@ -1,5 +1,6 @@
 // A room for what a call writes. Each byte of it is one and the same before the call, so that a byte that was not to change shows.
 #![tactic(auto)]
+
 ghost use Rattle.std.specs.Prelude.{◌≤◌, ◌≡◌, length};
 ghost use Rattle.marked.specs.Changed.{changed_byte, changed_bytes};
 

@@ -1,5 +1,6 @@
 // Prints the text of each table on standard input: four bytes with a table's length, then the table.
 #![tactic(auto)]
+
 ghost use Rattle.std.specs.Prelude.{◌<◌, ◌≡◌, length};
 
 // More tables than this are not read.

@@ -1,5 +1,6 @@
 // The least period of a component, or why there is none.
 #![tactic(auto)]
+
 mod cycle;
 pub mod delay;
 mod edge;

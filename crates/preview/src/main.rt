@@ -1,5 +1,6 @@
 // The preview program: prints what the analysis of the join of three named files, FIRST SECOND ADDED, comes to, as the check program prints it.
 #![tactic(auto)]
+
 fn main() {
     let mut first = input::room();
     let mut second = input::room();

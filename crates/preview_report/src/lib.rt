@@ -1,5 +1,6 @@
 // The text that the preview program prints: the preview of three files, printed as the check program prints an answer, over slices.
 #![tactic(auto)]
+
 ghost use Rattle.std.specs.Prelude.{◌≡◌, cond, false, ◌≤◌, eqb, length};
 ghost use Rattle.files.specs.Files.{file_of, ReadInto};
 ghost use Rattle.report.specs.Report.{text_room};

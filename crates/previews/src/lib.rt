@@ -1,5 +1,6 @@
 // The preview of a join: the inputs are read as the join reads them, and the table in the slices is analysed; no joined table is made as bytes.
 #![tactic(auto)]
+
 ghost use Rattle.std.specs.Prelude.{◌≡◌, ◌+◌, leb, length};
 ghost use Rattle.specification.specs.Reading.{start};
 ghost use Rattle.specification.specs.Encoding.{encode_table};

@@ -1,5 +1,6 @@
 // The text that the check program prints: the analysis of an input and the printed form of its answer, over slices.
 #![tactic(auto)]
+
 ghost use Rattle.std.specs.Prelude.{◌≤◌, ◌<◌, ◌≡◌, length, take};
 ghost use Rattle.specification.specs.Answers.{least_room};
 ghost use Rattle.input.specs.Input.{most_bytes};

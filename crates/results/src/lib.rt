@@ -1,5 +1,6 @@
 // The sizes of buffers, and the records of the numbers 0 and 15.
 #![tactic(auto)]
+
 pub mod blocked;
 pub mod consistent;
 mod kept;

@@ -1,5 +1,6 @@
 // What document 01 says, as definitions (specs/), and the types that they and the code share. No function stands here.
 #![tactic(auto)]
+
 pub mod limits;
 
 // A span of time in ticks: an amount forward and an amount back.

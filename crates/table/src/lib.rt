@@ -1,5 +1,6 @@
 // The model table: ports, connections and buffers; reading one from bytes into two slices of numbers, `ports` and `links`.
 #![tactic(auto)]
+
 pub mod links;
 mod numbers;
 pub mod ports;

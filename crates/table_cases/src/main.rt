@@ -1,5 +1,6 @@
 // Prints the number and the place that each of the tables on standard input gives: two bytes with a table's length, then the table.
 #![tactic(auto)]
+
 ghost use Rattle.std.specs.Prelude.{◌+◌, ◌≤◌, ◌<◌, ◌≡◌, length};
 ghost use Rattle.specification.specs.Reading.{read_table};
 

@@ -1,5 +1,6 @@
 // The printed form of an answer.
 #![tactic(auto)]
+
 mod lines;
 pub mod print;
 mod put;

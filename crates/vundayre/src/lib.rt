@@ -1,5 +1,6 @@
 // The analysis, the join and its preview, and hiding a port, exported for programs in C and Rust (bindings/).
 #![tactic(auto)]
+
 ghost use Rattle.std.specs.Prelude.{length};
 ghost use Rattle.specification.specs.Analysed.{Analysed};
 ghost use Rattle.specification.specs.Demanded.{Demanded};

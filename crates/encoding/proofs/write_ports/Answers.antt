@@ -1,0 +1,28 @@
+-- Each turn of the loop writes the record of one port more behind the others.
+use Prim.Native.Nat.{◌-◌}
+use native.Mathlib.Omega.{arith}
+use lib.ListN.{length, length-take, length-drop}
+use Rattle.specification.specs.Table.{no_port}
+use Rattle.specification.specs.Encoding.{encode_port}
+use Rattle.table.specs.Slices.{ports_of}
+use Rattle.encoding.specs.EncodingLaws.{port_length}
+use Rattle.encoding.specs.SoFar.{WrittenFirst, written_none, next_room, written_on, written_all}
+use borrow.Author.Rules.{rules}
+use Rattle.encoding.proofs.write_ports.Goals as goal
+
+pub loop-p-init : goal.loop-p-init
+loop-p-init c = written_none c.requires
+
+pub write_port-at-requires : goal.write_port-at-requires
+write_port-at-requires c =
+    let room = rw port_length at (next_room c.loop-p.invariant (omega arith)) in
+    simp (length-take, length-drop) (omega arith)
+
+pub overflow_add-at : goal.overflow_add-at
+overflow_add-at c = let w = written_on c.loop-p.invariant (omega arith) (rw c.at.ensures at c.write_port-at.ensures) in omega (arith, w.inside)
+
+pub loop-p-preserved : goal.loop-p-preserved
+loop-p-preserved c = written_on c.loop-p.invariant (omega arith) (rw c.at.ensures at c.write_port-at.ensures)
+
+pub returns : goal.returns
+returns c = written_all c.loop-p.invariant (omega arith)

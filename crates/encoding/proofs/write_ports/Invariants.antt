@@ -1,0 +1,17 @@
+-- Each turn of the loop writes the record of one port more behind the others.
+use Prim.Native.Nat.{◌-◌}
+use native.Mathlib.Omega.{arith}
+use lib.ListN.{length, length-take, length-drop}
+use Rattle.specification.specs.Table.{no_port}
+use Rattle.specification.specs.Encoding.{encode_port}
+use Rattle.table.specs.Slices.{ports_of}
+use Rattle.encoding.specs.EncodingLaws.{port_length}
+use Rattle.encoding.specs.SoFar.{WrittenFirst, written_none, next_room, written_on, written_all}
+use borrow.Author.Rules.{rules}
+use Rattle.encoding.proofs.write_ports.Given as goal
+
+abbrev pub invariant-loop-p : goal.invariant-loop-p
+invariant-loop-p l = WrittenFirst encode_port no_port (ports_of l.ports) l.initial.out l.out l.at l.p
+
+abbrev pub decreases-loop-p : goal.decreases-loop-p
+decreases-loop-p l = length (ports_of l.ports) - l.p

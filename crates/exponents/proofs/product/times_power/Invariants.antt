@@ -1,0 +1,13 @@
+-- The product so far times what is left of the power, up to the bound.
+use Rattle.exponents.proofs.product.Bounded.{Powered, powered_none, powered_room, powered_on, powered_all, powered_past}
+use borrow.Author.Tests.{leb-true, leb-false}
+use mathlib.Core.Logic.{⊎_elim}
+use native.Mathlib.Omega.{arith}
+use borrow.Author.Rules.{rules}
+use Rattle.exponents.proofs.product.times_power.Given as goal
+
+abbrev pub invariant-loop-left : goal.invariant-loop-left
+invariant-loop-left l = Powered l.x l.p l.e l.product l.left
+
+abbrev pub decreases-loop-left : goal.decreases-loop-left
+decreases-loop-left l = l.left

@@ -1,0 +1,13 @@
+-- Each turn of the loop copies one number more. The measure is how many are left.
+use native.Mathlib.Omega.{arith}
+use Rattle.forest.proofs.loops.Copying.{copied_none, copied_more, copied_all}
+use Prim.Native.Nat.{◌-◌}
+use Rattle.forest.specs.StepNumbers.{Copied}
+use borrow.Author.Rules.{rules}
+use Rattle.forest.proofs.loops.append.Given as goal
+
+abbrev pub invariant-loop-from : goal.invariant-loop-from
+invariant-loop-from l = Copied l.down l.initial.numbers l.numbers l.first l.next l.from l.to
+
+abbrev pub decreases-loop-from : goal.decreases-loop-from
+decreases-loop-from l = 128 - l.from

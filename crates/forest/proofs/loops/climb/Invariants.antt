@@ -1,0 +1,13 @@
+-- Each turn of the loop goes up from the end that was reached later. The measure is the sum of the places of both in the order.
+use Prim.Native.Nat.{◌+◌}
+use lib.ListN.{get_or}
+use borrow.Author.Rules.{rules}
+use Rattle.table.specs.Slices.{table_of}
+use Rattle.forest.proofs.loops.Writing.{Turn, turn_none, up_climbable, up_fits, turn_up, down_climbable, down_room, down_fits, turn_down, turn_met}
+use Rattle.forest.proofs.loops.climb.Given as goal
+
+abbrev pub invariant-loop-a : goal.invariant-loop-a
+invariant-loop-a l = Turn (table_of l.ports l.links) l.labels l.reach l.via l.k l.initial.numbers l.numbers l.down l.next l.first l.a l.b
+
+abbrev pub decreases-loop-a : goal.decreases-loop-a
+decreases-loop-a l = get_or l.reach l.a 0 + get_or l.reach l.b 0

@@ -1,0 +1,14 @@
+-- Each turn of the loop stores one number, which stays if its link is of that side.
+use Prim.Native.Nat.{◌-◌}
+use native.Mathlib.Omega.{arith}
+use lib.ListN.{length}
+use Rattle.table.specs.Slices.{links_of}
+use Rattle.hidden.specs.Sides.{on_side, GatheredFirst, gathered_none, gathered_on, gathered_all, one_most}
+use borrow.Author.Rules.{rules}
+use Rattle.hidden.proofs.sides.gather.Given as goal
+
+abbrev pub invariant-loop-k : goal.invariant-loop-k
+invariant-loop-k l = GatheredFirst (on_side l.side l.p) (links_of l.links) l.initial.numbers l.numbers l.n l.k
+
+abbrev pub decreases-loop-k : goal.decreases-loop-k
+decreases-loop-k l = length (links_of l.links) - l.k

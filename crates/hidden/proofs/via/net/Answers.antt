@@ -1,0 +1,8 @@
+-- The difference in lowest terms; one of both amounts is zero.
+use Rattle.hidden.specs.ViaParts.{net_is}
+use borrow.Author.Rules.{rules}
+use Rattle.hidden.proofs.via.net.Goals as goal
+
+pub returns : goal.returns
+returns c =
+    net_is c.args.forward c.args.back c.args.over c.difference-gained.ensures c.difference-lost.ensures c.reduced.ensures c.reduced-2.ensures c.reduced-3.ensures

@@ -1,0 +1,23 @@
+-- Each sum of two products is small, so the products fit too.
+use native.Mathlib.Omega.{arith}
+use borrow.Author.Rules.{rules}
+use Rattle.period.proofs.delay.Bounds.{bounds}
+use Rattle.period.proofs.delay.delay.Goals as goal
+
+pub overflow_mul-result : goal.overflow_mul-result
+overflow_mul-result c = let b = bounds c.requires in omega arith
+
+pub overflow_mul-result-2 : goal.overflow_mul-result-2
+overflow_mul-result-2 c = let b = bounds c.requires in omega arith
+
+pub overflow_add-result : goal.overflow_add-result
+overflow_add-result c = let b = bounds c.requires in omega arith
+
+pub overflow_mul-result-3 : goal.overflow_mul-result-3
+overflow_mul-result-3 c = let b = bounds c.requires in omega arith
+
+pub overflow_mul-result-4 : goal.overflow_mul-result-4
+overflow_mul-result-4 c = let b = bounds c.requires in omega arith
+
+pub overflow_add-result-2 : goal.overflow_add-result-2
+overflow_add-result-2 c = let b = bounds c.requires in omega arith

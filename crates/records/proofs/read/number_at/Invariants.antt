@@ -1,0 +1,11 @@
+-- By the bytes that are read.
+use native.Mathlib.Omega.{arith}
+use borrow.Author.Rules.{rules}
+use Rattle.records.proofs.read.Reading.{Reading, reading_none, reading_more, reading_small, reading_all}
+use Rattle.records.proofs.read.number_at.Given as goal
+
+abbrev pub invariant-loop-left : goal.invariant-loop-left
+invariant-loop-left l = Reading l.s l.at l.n l.left l.v
+
+abbrev pub decreases-loop-left : goal.decreases-loop-left
+decreases-loop-left l = l.left

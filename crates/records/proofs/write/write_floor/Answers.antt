@@ -1,0 +1,11 @@
+-- The three stores follow one another, so they are one store of the whole record.
+use mathlib.Core.Path.{refl}
+use borrow.Author.Rules.{rules}
+use Rattle.specification.specs.Bytes.{bytes, encode, floor_answer}
+use Rattle.records.specs.WrittenLaws.{written}
+use Rattle.records.proofs.write.write_floor.Goals as goal
+
+pub returns : goal.returns
+unfolding floor_answer encode bytes
+returns c =
+    written (rw (c.put_number-3.ensures, c.put_number-2.ensures, c.put_number.ensures)) refl c.requires

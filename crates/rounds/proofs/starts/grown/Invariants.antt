@@ -1,0 +1,11 @@
+-- None of the ports passed grew. The measure is how many are left.
+use Prim.Native.Nat.{◌-◌}
+use Rattle.rounds.proofs.starts.Flat.{Flat, flat_none, flat_on, flat_grown, flat_all}
+use borrow.Author.Rules.{rules}
+use Rattle.rounds.proofs.starts.grown.Given as goal
+
+abbrev pub invariant-loop-p : goal.invariant-loop-p
+invariant-loop-p l = Flat l.old l.new l.p
+
+abbrev pub decreases-loop-p : goal.decreases-loop-p
+decreases-loop-p l = 64 - l.p

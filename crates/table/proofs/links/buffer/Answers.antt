@@ -1,0 +1,9 @@
+-- By the kind.
+use Prim.Native.Nat.{ℕ}
+use mathlib.Core.Path.{ap}
+use lib.Dec.{eqb}
+use borrow.Author.Rules.{rules}
+use Rattle.table.proofs.links.buffer.Goals as goal
+
+pub returns : goal.returns
+returns c = ap (λ (x : ℕ). eqb x 3) c.link.ensures.fields.kind

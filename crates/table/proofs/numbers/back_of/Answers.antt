@@ -1,0 +1,14 @@
+-- By the test.
+use Rattle.table.proofs.numbers.Halves.{below_half, from_half}
+use Rattle.specification.specs.Reading.{back}
+use borrow.Author.Tests.{lt-ltb, le-ltb}
+use borrow.Author.Rules.{rules}
+use Rattle.table.proofs.numbers.back_of.Goals as goal
+
+pub returns-then-v-below : goal.returns-then-v-below
+unfolding back
+returns-then-v-below c = rw (lt-ltb _ _ (below_half _ c.if-v-below.true))
+
+pub returns-else-v-below : goal.returns-else-v-below
+unfolding back
+returns-else-v-below c = rw (le-ltb _ _ (from_half _ c.if-v-below.false))

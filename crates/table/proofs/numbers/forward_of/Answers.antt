@@ -1,0 +1,14 @@
+-- By the test.
+use Rattle.table.proofs.numbers.Halves.{below_half, from_half}
+use Rattle.specification.specs.Reading.{forward}
+use borrow.Author.Tests.{lt-ltb, le-ltb}
+use borrow.Author.Rules.{rules}
+use Rattle.table.proofs.numbers.forward_of.Goals as goal
+
+pub returns-then-v : goal.returns-then-v
+unfolding forward
+returns-then-v c = rw (lt-ltb _ _ (below_half _ c.if-v.true))
+
+pub returns-else-v : goal.returns-else-v
+unfolding forward
+returns-else-v c = rw (le-ltb _ _ (from_half _ c.if-v.false))

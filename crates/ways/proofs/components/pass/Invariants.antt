@@ -1,0 +1,16 @@
+-- Each turn of the loop passes one link more. The measure is how many are left.
+use native.Mathlib.Omega.{arith}
+use Rattle.table.specs.Slices.{links_of, table_of}
+use Rattle.ways.proofs.components.Passing.{passed_none, passed_both, passed_on, passed_off, passed_all}
+use Rattle.ways.specs.Passes.{Passed}
+use borrow.Author.Rules.{rules}
+use mathlib.Core.Logic.{⊎_elim}
+use Prim.Native.Nat.{◌-◌}
+use lib.ListN.{length}
+use Rattle.ways.proofs.components.pass.Given as goal
+
+abbrev pub invariant-loop-k : goal.invariant-loop-k
+invariant-loop-k l = Passed (table_of l.ports l.links) l.k l.initial.labels l.labels l.changed
+
+abbrev pub decreases-loop-k : goal.decreases-loop-k
+decreases-loop-k l = length (links_of l.links) - l.k
