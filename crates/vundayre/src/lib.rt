@@ -1,4 +1,4 @@
-// The analysis, the join and its preview, and hiding a port, exported for programs in C and Rust (bindings/).
+// The analysis, the join and its preview, and hiding a port, as programs in C and Rust call them (bindings/); `vundayre_c` exports them.
 #![tactic(auto)]
 
 ghost use Rattle.std.specs.Prelude.{length};
@@ -11,16 +11,14 @@ ghost use Rattle.specification.specs.HiddenTimes.{HideDemanded};
 
 use specification::{JoinOutcome, Outcome};
 
-#[unsafe(no_mangle)]
-pub extern "C" fn vundayre_analyse(table: &[u8], answer: &mut [u8]) -> Outcome
+pub fn vundayre_analyse(table: &[u8], answer: &mut [u8]) -> Outcome
     ensures analysed { Analysed table.now answer.old answer.new result }
     ensures demands { Demanded table.now answer.old answer.new result }
 {
     analysis::analyse(table, answer)
 }
 
-#[unsafe(no_mangle)]
-pub extern "C" fn vundayre_join(
+pub fn vundayre_join(
     first: &[u8],
     second: &[u8],
     added: &[u8],
@@ -32,8 +30,7 @@ pub extern "C" fn vundayre_join(
     joins::join(first, second, added, out)
 }
 
-#[unsafe(no_mangle)]
-pub extern "C" fn vundayre_preview(
+pub fn vundayre_preview(
     first: &[u8],
     second: &[u8],
     added: &[u8],
@@ -45,8 +42,7 @@ pub extern "C" fn vundayre_preview(
     previews::preview(first, second, added, answer)
 }
 
-#[unsafe(no_mangle)]
-pub extern "C" fn vundayre_hide(table: &[u8], port: u64, out: &mut [u8]) -> Outcome
+pub fn vundayre_hide(table: &[u8], port: u64, out: &mut [u8]) -> Outcome
     ensures hide_returned { HideReturned table.now port out.old out.new result }
     ensures demands { HideDemanded table.now port out.old out.new result }
 {

@@ -1,7 +1,6 @@
 -- What the analysis promises, and the demands that follow from it.
-use borrow.Author.Rules.{rules}
 use Rattle.analysis.specs.DemandedLaws.{demanded}
 use Rattle.vundayre.proofs.vundayre_analyse.Goals as goal
 
-pub returns : goal.returns
-returns c = let analysed = c.analyse.ensures.analysed in (analysed, demanded analysed)
+pub returns-clause-demands : goal.returns-clause-demands
+returns-clause-demands c = demanded c.analyse.ensures.analysed
