@@ -7,25 +7,26 @@ ghost use Rattle.std.specs.Prelude.{◌≡◌, length};
 
 use marked::print_number;
 use records::read::number_at;
+use std::io::Read;
 
 // More cases than this are not read.
 const MOST: usize = 100000;
 
-fn main() {
+fn main(rt: HostRuntime) {
     let mut space = io::large_buffer();
     let mut room = io::large_buffer();
     let space_slice: &mut [u8] = &mut space;
     let room_slice: &mut [u8] = &mut room;
-    run(space_slice, room_slice);
+    run(&rt, &mut rt.stdin(), space_slice, room_slice);
 }
 
-fn run(space: &mut [u8], room: &mut [u8])
+fn run<R: Read>(out: &impl Print, reader: &mut R, space: &mut [u8], room: &mut [u8])
     requires value { 65536 ≡ length space.old }
     requires value_2 { 65536 ≡ length room.old }
 {
     let mut left = MOST;
     while 0 < left {
-        if !next(space, room) {
+        if !next(out, reader, space, room) {
             return;
         }
         left = left - 1;
@@ -33,11 +34,11 @@ fn run(space: &mut [u8], room: &mut [u8])
 }
 
 // Reads one case and prints what it comes to. Says whether there was one.
-fn next(space: &mut [u8], room: &mut [u8]) -> bool
+fn next<R: Read>(out: &impl Print, reader: &mut R, space: &mut [u8], room: &mut [u8]) -> bool
     requires value { 65536 ≡ length space.old }
     requires value_2 { 65536 ≡ length room.old }
 {
-    let head = input::fill(libc::STDIN_FILENO, &mut space[..16]);
+    let head = input::fill(reader, &mut space[..16]);
     if head.count < 16 {
         return false;
     }
@@ -50,17 +51,17 @@ fn next(space: &mut [u8], room: &mut [u8]) -> bool
     if 65536 < end {
         return false;
     }
-    let read = input::fill(libc::STDIN_FILENO, &mut space[..end]);
+    let read = input::fill(reader, &mut space[..end]);
     if read.count < end {
         return false;
     }
-    print_case(port, &space[..end], &mut room[..size])
+    print_case(out, port, &space[..end], &mut room[..size])
 }
 
-fn print_case(port: usize, s: &[u8], room: &mut [u8]) -> bool {
+fn print_case(out: &impl Print, port: usize, s: &[u8], room: &mut [u8]) -> bool {
     marked::mark(room);
     let r = hiding::hide(s, port, room);
-    print_number(r.number, b" ");
-    print_number(r.place as u64, b" ");
-    marked::print_written(room, r.written)
+    print_number(out, r.number, b" ");
+    print_number(out, r.place as u64, b" ");
+    marked::print_written(out, room, r.written)
 }

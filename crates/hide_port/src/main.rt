@@ -1,19 +1,21 @@
 // The hide program: hides the port that its argument names in the table on standard input, and writes the table without it.
 #![tactic(auto)]
 
-fn main() {
+use std::rt::Env;
+
+fn main(rt: HostRuntime) {
     let mut name = io::buffer();
     let mut space = input::room();
     let mut out = io::large_buffer();
     let mut text = io::buffer();
     // an argument that is missing or longer than the buffer has no bytes here, and so is no number
-    let count = os::arg(1, &mut name);
-    let read = input::fill(libc::STDIN_FILENO, &mut space);
+    let count = rt.arg(1, &mut name).unwrap_or(0);
+    let read = input::fill(&mut rt.stdin(), &mut space);
     let r = hide_report::report(&name[..count], &space, read, &mut out, &mut text);
     let line = r.line;
-    io::write_all(libc::STDERR_FILENO, &text[..line]);
+    let _ = rt.stderr().write_all(&text[..line]);
     let written = r.written;
-    if !io::write_all(libc::STDOUT_FILENO, &out[..written]) {
-        io::write_all(libc::STDERR_FILENO, b"the table was not written\n");
+    if rt.write_all(&out[..written]).is_err() {
+        let _ = rt.stderr().write_all(b"the table was not written\n");
     }
 }

@@ -1,5 +1,5 @@
 -- What a read of an input comes to.
-use Rattle.std.specs.Prelude.{ℕ, ◌+◌, ◌≤◌, ◌<◌, min, ◌≡◌, Bool, true, false, cond, ℤ, pos, negsuc, ltb, leb}
+use Rattle.std.specs.Prelude.{Result, Ok, Err, ℕ, ◌+◌, ◌≤◌, ◌<◌, min, ◌≡◌, Bool, true, false, cond, ℤ, pos, negsuc, ltb, leb}
 use Rattle.std.proofs.Common.{sym, true≢false, arith, ltb-true}
 use Rattle.input.specs.declared.Input.{Input}
 
@@ -7,6 +7,11 @@ use Rattle.input.specs.declared.Input.{Input}
 abbrev pub after_read : (count : ℕ) → ℤ → (rest : ℕ) → Input
 after_read count (pos n) rest = record { count = count + min n rest; more = ltb 0 (min n rest); failed = false }
 after_read count (negsuc n) rest = record { count = count; more = false; failed = true }
+
+-- the result of a read as the definition above takes it: how many bytes it read, and a negative number where it failed
+abbrev pub read_result : {E : Type 0} → Result ℕ E → ℤ
+read_result (Ok n) = pos n
+read_result (Err e) = negsuc 0
 
 pub record AfterRead (count : ℕ) (got : ℤ) (rest : ℕ) (r : Input) : Type 0 where
   pub is : r ≡ after_read count got rest

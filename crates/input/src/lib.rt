@@ -2,7 +2,12 @@
 #![tactic(auto)]
 
 ghost use Rattle.std.specs.Prelude.{◌≡◌, true, ◌+◌, ◌^◌, ◌≤◌, ◌<◌, length};
-ghost use Rattle.input.specs.Input.{read_whole, AfterRead, Onward};
+ghost use Rattle.input.specs.Input.{read_whole, read_result, AfterRead, Onward};
+
+use std::fs::File;
+use std::io::Read;
+use std::rt::{Env, Files};
+use std::{io, str};
 
 // How many bytes stand at the front of the buffer, whether more may come, and whether a read failed.
 #[derive(Clone, Copy)]
@@ -12,38 +17,40 @@ pub struct Input {
     pub failed: bool,
 }
 
-// What a read came to that was to fill the buffer from `count` on: its result is 0 at the end of the input and negative where it failed.
-fn after_read(count: usize, got: isize, rest: &[u8]) -> Input
+// What a read came to that was to fill the buffer from `count` on: no bytes are the end of the input.
+fn after_read(count: usize, got: io::Result<usize>, rest: &[u8]) -> Input
     requires { count + length rest.now < 2 ^ 64 }
-    ensures { AfterRead count got (length rest.now) result }
+    ensures { AfterRead count (read_result got) (length rest.now) result }
 {
-    if got < 0 {
-        return Input {
+    match got {
+        Err(_) => Input {
             count,
             more: false,
             failed: true,
-        };
-    }
-    let n = io::count(got, rest);
-    Input {
-        count: count + n,
-        more: n > 0,
-        failed: false,
+        },
+        Ok(n) => {
+            let n = n.min(rest.len());
+            Input {
+                count: count + n,
+                more: n > 0,
+                failed: false,
+            }
+        }
     }
 }
 
 // One read into the part of the buffer from `count` on.
-fn read_once(fd: i32, buf: &mut [u8], count: usize) -> Input
+fn read_once<R: Read>(reader: &mut R, buf: &mut [u8], count: usize) -> Input
     requires { count ≤ length buf.old }
     ensures onward { Onward count (length buf.old) result }
     ensures buf_len_unchanged { length buf.new ≡ length buf.old }
 {
-    let got = libc::read(fd, &mut buf[count..]);
+    let got = reader.read(&mut buf[count..]);
     after_read(count, got, &buf[count..])
 }
 
-// Reads until the buffer is full, the input ends or a read fails. `io::read_full` does not tell the last two apart.
-pub fn fill(fd: i32, buf: &mut [u8]) -> Input
+// Reads until the buffer is full, the input ends or a read fails. `read_exact` does not say how many bytes there were.
+pub fn fill<R: Read>(reader: &mut R, buf: &mut [u8]) -> Input
     ensures count_in_bounds { result.count ≤ length buf.new }
     ensures buf_len_unchanged { length buf.new ≡ length buf.old }
 {
@@ -56,7 +63,7 @@ pub fn fill(fd: i32, buf: &mut [u8]) -> Input
         if input.count == buf.len() {
             return input;
         }
-        input = read_once(fd, buf, input.count);
+        input = read_once(reader, buf, input.count);
     }
     input
 }
@@ -74,31 +81,30 @@ fn unread() -> Input
     }
 }
 
-// Reads the file of this name. One that cannot be opened counts as a failed read.
-pub fn fill_named(name: &[u8], buf: &mut [u8]) -> Input
+// Reads the file of this name. One that cannot be opened counts as a failed read, and so does a name that is not UTF-8.
+pub fn fill_named<R: Files>(files: &R, name: &[u8], buf: &mut [u8]) -> Input
     ensures count_in_bounds { result.count ≤ length buf.new }
     ensures buf_len_unchanged { length buf.new ≡ length buf.old }
 {
-    let fd = os::open_read(name);
-    if fd < 0 {
+    let Ok(name) = str::from_utf8(name) else {
         return unread();
+    };
+    match File::open(files, name) {
+        Ok(mut file) => fill(&mut file, buf),
+        Err(_) => unread(),
     }
-    let read = fill(fd, buf);
-    libc::close(fd);
-    read
 }
 
 // Reads the file that argument k names. A name that is missing or too long counts as a failed read.
-pub fn fill_argument(k: usize, buf: &mut [u8]) -> Input
+pub fn fill_argument<R: Env + Files>(rt: &R, k: usize, buf: &mut [u8]) -> Input
     ensures count_in_bounds { result.count ≤ length buf.new }
     ensures buf_len_unchanged { length buf.new ≡ length buf.old }
 {
-    let mut name = io::buffer();
-    let n = os::arg(k, &mut name);
-    if os::errno() != 0 {
-        return unread();
+    let mut name = [0u8; 4096];
+    match rt.arg(k, &mut name) {
+        Ok(n) => fill_named(rt, &name[..n], buf),
+        Err(_) => unread(),
     }
-    fill_named(&name[..n], buf)
 }
 
 // Room for an input, with a byte more than is taken, so that a longer input shows.
@@ -109,6 +115,7 @@ pub fn room() -> [u8; 65537]
 }
 
 // Whether the input was read whole: no read failed, and it is not longer than is taken.
+#[tactic(auto, unfolding(crate::specs::Input::read_whole))]
 pub fn whole(read: Input) -> bool
     ensures { result ≡ read_whole read.failed read.count }
 {

@@ -1,15 +1,15 @@
 // The join program: joins the tables and the added records of three named files, FIRST SECOND ADDED, and writes the joined table.
 #![tactic(auto)]
 
-fn main() {
+fn main(rt: HostRuntime) {
     let mut first = input::room();
     let mut second = input::room();
     let mut added = input::room();
     let mut out = io::large_buffer();
     let mut text = io::buffer();
-    let first_read = input::fill_argument(1, &mut first);
-    let second_read = input::fill_argument(2, &mut second);
-    let added_read = input::fill_argument(3, &mut added);
+    let first_read = input::fill_argument(&rt, 1, &mut first);
+    let second_read = input::fill_argument(&rt, 2, &mut second);
+    let added_read = input::fill_argument(&rt, 3, &mut added);
     let r = join_report::report(
         &first,
         first_read,
@@ -21,9 +21,9 @@ fn main() {
         &mut text,
     );
     let line = r.line;
-    io::write_all(libc::STDERR_FILENO, &text[..line]);
+    let _ = rt.stderr().write_all(&text[..line]);
     let written = r.written;
-    if !io::write_all(libc::STDOUT_FILENO, &out[..written]) {
-        io::write_all(libc::STDERR_FILENO, b"the table was not written\n");
+    if rt.write_all(&out[..written]).is_err() {
+        let _ = rt.stderr().write_all(b"the table was not written\n");
     }
 }

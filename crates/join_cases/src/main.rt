@@ -8,6 +8,7 @@ ghost use Rattle.std.specs.Prelude.{◌≤◌, ◌≡◌, length};
 use marked::print_number;
 use records::read::number_at;
 use specification::JoinOutcome;
+use std::io::Read;
 
 // More cases than this are not read.
 const MOST: usize = 100000;
@@ -15,21 +16,21 @@ const MOST: usize = 100000;
 // The number of the call of a join; every other is that of a preview.
 const JOIN: u64 = 0;
 
-fn main() {
+fn main(rt: HostRuntime) {
     let mut space = io::large_buffer();
     let mut room = io::large_buffer();
     let space_slice: &mut [u8] = &mut space;
     let room_slice: &mut [u8] = &mut room;
-    run(space_slice, room_slice);
+    run(&rt, &mut rt.stdin(), space_slice, room_slice);
 }
 
-fn run(space: &mut [u8], room: &mut [u8])
+fn run<R: Read>(out: &impl Print, reader: &mut R, space: &mut [u8], room: &mut [u8])
     requires value { 65536 ≡ length space.old }
     requires value_2 { 65536 ≡ length room.old }
 {
     let mut left = MOST;
     while 0 < left {
-        if !next(space, room) {
+        if !next(out, reader, space, room) {
             return;
         }
         left = left - 1;
@@ -63,11 +64,11 @@ fn numbers_of(head: &[u8]) -> Case
 }
 
 // Reads one case and prints what it comes to. Says whether there was one.
-fn next(space: &mut [u8], room: &mut [u8]) -> bool
+fn next<R: Read>(out: &impl Print, reader: &mut R, space: &mut [u8], room: &mut [u8]) -> bool
     requires value { 65536 ≡ length space.old }
     requires value_2 { 65536 ≡ length room.old }
 {
-    let head = input::fill(libc::STDIN_FILENO, &mut space[..20]);
+    let head = input::fill(reader, &mut space[..20]);
     if head.count < 20 {
         return false;
     }
@@ -80,14 +81,14 @@ fn next(space: &mut [u8], room: &mut [u8]) -> bool
     if 65536 < end {
         return false;
     }
-    let read = input::fill(libc::STDIN_FILENO, &mut space[..end]);
+    let read = input::fill(reader, &mut space[..end]);
     if read.count < end {
         return false;
     }
-    print_case(case, &space[..end], &mut room[..size])
+    print_case(out, case, &space[..end], &mut room[..size])
 }
 
-fn print_case(case: Case, s: &[u8], room: &mut [u8]) -> bool
+fn print_case(out: &impl Print, case: Case, s: &[u8], room: &mut [u8]) -> bool
     requires second_le_added { case.second ≤ case.added }
     requires added_in_bounds { case.added ≤ length s.now }
 {
@@ -101,10 +102,10 @@ fn print_case(case: Case, s: &[u8], room: &mut [u8]) -> bool
         &s[added..],
         room,
     );
-    print_number(r.number, b" ");
-    print_number(r.place as u64, b" ");
-    print_number(r.input, b" ");
-    marked::print_written(room, r.written)
+    print_number(out, r.number, b" ");
+    print_number(out, r.place as u64, b" ");
+    print_number(out, r.input, b" ");
+    marked::print_written(out, room, r.written)
 }
 
 fn outcome(call: u64, first: &[u8], second: &[u8], added: &[u8], room: &mut [u8]) -> JoinOutcome

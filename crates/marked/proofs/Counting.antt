@@ -1,11 +1,6 @@
 -- The changed bytes among the first ones of a room, counted or marked one by one.
-use Prim.Native.Nat.{ℕ, ◌+◌, ◌≤◌, ◌<◌}
-use mathlib.Core.Path.{◌≡◌, ap}
-use mathlib.Core.List.{List, [], ◌∷◌}
-use native.Mathlib.Omega.{arith}
-use native.Mathlib.Numerals.{add-one}
-use lib.ListN.{length, get_or, set, take, length-set}
-use lib.Seq.{take-suc-set, take_all}
+use Rattle.std.proofs.Common.{ℕ, ◌+◌, ◌≤◌, ◌<◌, ◌≡◌, ap, List, [], ◌∷◌, arith, add-one, length, get_or, set, take, take_all}
+use Rattle.std.proofs.Math.Seq.{take-suc-set}
 use Rattle.numbers.specs.ListLaws.{sum_append}
 use Rattle.numbers.specs.Taken.{sum_take}
 use Rattle.marked.specs.Changed.{changed_byte, changed_bytes}

@@ -30,6 +30,7 @@ pub fn changed(rest: &[u8]) -> usize
     count
 }
 
+#[tactic(auto, unfolding(crate::specs::Changed::changed_byte))]
 fn unmarked(byte: u8) -> usize
     ensures value { result ≡ changed_byte byte }
     ensures within { result ≤ 1 }
@@ -40,16 +41,17 @@ fn unmarked(byte: u8) -> usize
     1
 }
 
-pub fn print_number(n: u64, behind: &[u8]) {
-    io::print_decimal(libc::STDOUT_FILENO, n);
-    io::write_all(libc::STDOUT_FILENO, behind);
+// A write that fails is not told.
+pub fn print_number(out: &impl Print, n: u64, behind: &[u8]) {
+    let _ = out.print(n);
+    let _ = out.write_all(behind);
 }
 
-// Prints how many bytes were written and how many behind them changed, then the written ones.
-pub fn print_written(room: &[u8], written: usize) -> bool
+// Prints how many bytes were written and how many behind them changed, then the written ones. Says whether these were printed.
+pub fn print_written(out: &impl Print, room: &[u8], written: usize) -> bool
     requires { written ≤ length room.now }
 {
-    print_number(written as u64, b" ");
-    print_number(changed(&room[written..]) as u64, b"\n");
-    io::write_all(libc::STDOUT_FILENO, &room[..written])
+    print_number(out, written as u64, b" ");
+    print_number(out, changed(&room[written..]) as u64, b"\n");
+    out.write_all(&room[..written]).is_ok()
 }

@@ -3,24 +3,26 @@
 
 ghost use Rattle.std.specs.Prelude.{◌<◌, ◌≡◌, length};
 
+use std::io::Read;
+
 // More tables than this are not read.
 const MOST: usize = 100000;
 
-fn main() {
+fn main(rt: HostRuntime) {
     let mut space = input::room();
     let mut text = io::large_buffer();
     let space_slice: &mut [u8] = &mut space;
     let text_slice: &mut [u8] = &mut text;
-    run(space_slice, text_slice);
+    run(&rt, &mut rt.stdin(), space_slice, text_slice);
 }
 
-fn run(space: &mut [u8], text: &mut [u8])
+fn run<R: Read>(out: &impl Print, reader: &mut R, space: &mut [u8], text: &mut [u8])
     requires value { 65537 ≡ length space.old }
     requires value_2 { 65536 ≡ length text.old }
 {
     let mut left = MOST;
     while 0 < left {
-        if !next(space, text) {
+        if !next(out, reader, space, text) {
             return;
         }
         left = left - 1;
@@ -28,11 +30,11 @@ fn run(space: &mut [u8], text: &mut [u8])
 }
 
 // Reads one table and prints its text. Says whether there was one.
-fn next(space: &mut [u8], text: &mut [u8]) -> bool
+fn next<R: Read>(out: &impl Print, reader: &mut R, space: &mut [u8], text: &mut [u8]) -> bool
     requires value { 65537 ≡ length space.old }
     requires value_2 { 65536 ≡ length text.old }
 {
-    let head = input::fill(libc::STDIN_FILENO, &mut space[..4]);
+    let head = input::fill(reader, &mut space[..4]);
     if head.count < 4 {
         return false;
     }
@@ -43,12 +45,12 @@ fn next(space: &mut [u8], text: &mut [u8]) -> bool
     if 65537 < size {
         return false;
     }
-    let read = input::fill(libc::STDIN_FILENO, &mut space[..size]);
+    let read = input::fill(reader, &mut space[..size]);
     if read.count < size {
         return false;
     }
     let n = report::report(space, read, text);
-    io::write_all(libc::STDOUT_FILENO, &text[..n])
+    out.write_all(&text[..n]).is_ok()
 }
 
 fn wide(x: u8) -> usize

@@ -46,8 +46,8 @@ fn copy(src: &[u64], dst: &mut [u64])
 
 // The lowest port whose start is greater in new than in old, or WIDTH. Looked for after a round: kept by each edge it would slow the round.
 fn grown(old: &[u64], new: &[u64]) -> usize
-    requires len { length old.now ≡ 64 }
-    requires len_2 { length new.now ≡ 64 }
+    requires old_len { length old.now ≡ 64 }
+    requires new_len { length new.now ≡ 64 }
     ensures { Grown old.now new.now result }
 {
     let mut p: usize = 0;

@@ -7,13 +7,13 @@ ghost use Rattle.specification.specs.Reading.{read_table};
 use table::reading::Counts;
 use table::{links, reading};
 
-fn main() {
+fn main(rt: HostRuntime) {
     let mut buffer = io::large_buffer();
-    let n = io::read_full(libc::STDIN_FILENO, &mut buffer);
-    run(&buffer[..n]);
+    let n = input::fill(&mut rt.stdin(), &mut buffer).count;
+    run(&rt, &buffer[..n]);
 }
 
-fn run(s: &[u8]) {
+fn run(out: &impl Print, s: &[u8]) {
     let mut at: usize = 0;
     while at < s.len() {
         let left = s.len() - at;
@@ -26,17 +26,14 @@ fn run(s: &[u8]) {
             return;
         }
         let end = start + size;
-        print_line(&s[start..end]);
+        print_line(out, &s[start..end]);
         at = end;
     }
 }
 
-fn print_line(s: &[u8]) {
+fn print_line(out: &impl Print, s: &[u8]) {
     let r = read(s);
-    io::print_decimal(libc::STDOUT_FILENO, r.number);
-    io::write_all(libc::STDOUT_FILENO, b" ");
-    io::print_decimal(libc::STDOUT_FILENO, r.place as u64);
-    io::write_all(libc::STDOUT_FILENO, b"\n");
+    let _ = println!(out; "{} {}", r.number, r.place);
 }
 
 fn read(s: &[u8]) -> Counts

@@ -33,7 +33,7 @@ fn put_port_text(
 pub fn put_port(s: &[u8], at: usize, number: u64, text: &mut [u8], to: usize) -> usize
     requires at_in_bounds { at + 24 ≤ length s.now }
     requires nonzero { 0 < number_at s.now (at + 12) 4 }
-    requires to_in_bounds { to + 182 ≤ length text.old }
+    requires room { to + 182 ≤ length text.old }
     ensures { Put (port_at s.now at number) text.old text.new to result }
 {
     let component = number_at(s, at + 4, 2);
@@ -55,7 +55,7 @@ pub fn put_port(s: &[u8], at: usize, number: u64, text: &mut [u8], to: usize) ->
 
 pub fn put_buffer(s: &[u8], at: usize, text: &mut [u8], to: usize) -> usize
     requires at_in_bounds { at + 14 ≤ length s.now }
-    requires to_in_bounds { to + 54 ≤ length text.old }
+    requires room { to + 54 ≤ length text.old }
     ensures { Put (buffer_at s.now at) text.old text.new to result }
 {
     let mut end = put_field(text, to, b"buffer ", number_at(s, at + 4, 2));
@@ -76,7 +76,7 @@ fn put_sign(against: bool, text: &mut [u8], to: usize) -> usize
 
 fn put_step(s: &[u8], at: usize, text: &mut [u8], to: usize) -> usize
     requires at_in_bounds { at + 4 ≤ length s.now }
-    requires to_in_bounds { to + 22 ≤ length text.old }
+    requires room { to + 22 ≤ length text.old }
     ensures { Put (step_at s.now at) text.old text.new to result }
 {
     let end = put_sign(number_at(s, at + 2, 2) != 0, text, to);
@@ -85,7 +85,7 @@ fn put_step(s: &[u8], at: usize, text: &mut [u8], to: usize) -> usize
 
 fn put_steps(s: &[u8], at: usize, n: usize, text: &mut [u8], to: usize) -> usize
     requires n_in_bounds { at + 4 * n ≤ length s.now }
-    requires n_in_bounds_2 { to + 22 * n ≤ length text.old }
+    requires room { to + 22 * n ≤ length text.old }
     ensures put { Put (items_text (step_at s.now) 4 at n) text.old text.new to result }
     ensures within { result ≤ to + 22 * n }
 {
@@ -100,7 +100,7 @@ fn put_steps(s: &[u8], at: usize, n: usize, text: &mut [u8], to: usize) -> usize
 
 pub fn put_loop(s: &[u8], at: usize, n: usize, text: &mut [u8], to: usize) -> usize
     requires n_in_bounds { at + 4 + 4 * n ≤ length s.now }
-    requires n_in_bounds_2 { to + 5 + 22 * n ≤ length text.old }
+    requires room { to + 5 + 22 * n ≤ length text.old }
     ensures { Put (loop_at s.now at n) text.old text.new to result }
 {
     let mut end = put_word(text, to, b"loop");
@@ -110,7 +110,7 @@ pub fn put_loop(s: &[u8], at: usize, n: usize, text: &mut [u8], to: usize) -> us
 
 fn put_connections(s: &[u8], at: usize, n: usize, text: &mut [u8], to: usize) -> usize
     requires n_in_bounds { at + 2 * n ≤ length s.now }
-    requires n_in_bounds_2 { to + 21 * n ≤ length text.old }
+    requires room { to + 21 * n ≤ length text.old }
     ensures put { Put (items_text (connection_at s.now) 2 at n) text.old text.new to result }
     ensures within { result ≤ to + 21 * n }
 {
@@ -123,6 +123,7 @@ fn put_connections(s: &[u8], at: usize, n: usize, text: &mut [u8], to: usize) ->
     end
 }
 
+#[tactic(auto, unfolding(crate::specs::Printed::cycle_word))]
 fn put_cycle_word(number: u64, text: &mut [u8], to: usize) -> usize
     requires { to + 11 ≤ length text.old }
     ensures put { Put (cycle_word number) text.old text.new to result }
@@ -136,7 +137,7 @@ fn put_cycle_word(number: u64, text: &mut [u8], to: usize) -> usize
 
 pub fn put_cycle(s: &[u8], at: usize, number: u64, n: usize, text: &mut [u8], to: usize) -> usize
     requires n_in_bounds { at + 4 + 2 * n ≤ length s.now }
-    requires n_in_bounds_2 { to + 12 + 21 * n ≤ length text.old }
+    requires room { to + 12 + 21 * n ≤ length text.old }
     ensures { Put (cycle_at s.now at number n) text.old text.new to result }
 {
     let mut end = put_cycle_word(number, text, to);
@@ -144,9 +145,10 @@ pub fn put_cycle(s: &[u8], at: usize, number: u64, n: usize, text: &mut [u8], to
     put_word(text, end, b"\n")
 }
 
+#[tactic(auto, unfolding(crate::specs::Printed::floor_at, crate::specs::Lines::floor_line))]
 pub fn put_floor(s: &[u8], at: usize, text: &mut [u8], to: usize) -> usize
     requires at_in_bounds { at + 6 ≤ length s.now }
-    requires to_in_bounds { to + 32 ≤ length text.old }
+    requires room { to + 32 ≤ length text.old }
     ensures { Put (floor_at s.now at) text.old text.new to result }
 {
     let port = number_at(s, at + 4, 2);

@@ -46,7 +46,7 @@ fn is_record(s: &[u8], at: usize) -> bool
 
 fn put_record(s: &[u8], at: usize, number: u64, text: &mut [u8], to: usize) -> usize
     requires lies { Lies s.now at }
-    requires at_in_bounds { to + 12 * (2 + number_at s.now at 2) ≤ length text.old }
+    requires room { to + 12 * (2 + number_at s.now at 2) ≤ length text.old }
     ensures { Put (record_line s.now at number) text.old text.new to result }
 {
     let size = number_at(s, at, 2) as usize;
@@ -82,6 +82,7 @@ fn put_records(s: &[u8], text: &mut [u8], to: usize) -> usize
 }
 
 // The place of a number; 0 is printed without one.
+#[tactic(auto, using(crate::specs::Put::put_nothing), unfolding(crate::specs::Lines::place_text))]
 fn put_place(number: u64, place: usize, text: &mut [u8], to: usize) -> usize
     requires { to + 24 ≤ length text.old }
     ensures put { Put (place_text number place) text.old text.new to result }

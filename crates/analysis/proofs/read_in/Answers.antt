@@ -4,12 +4,14 @@ use native.Mathlib.Omega.{arith}
 use lib.ListN.{length-take}
 use Rattle.table.specs.FilledLaws.{table_read, formed_read}
 use Rattle.analysis.specs.AnalysedLaws.{analysed_faulty, analysed_decided, written_room}
-use borrow.Author.Rules.{rules}
 use Rattle.analysis.proofs.read_in.Goals as goal
 
 pub returns-then-read-ne0 : goal.returns-then-read-ne0
 returns-then-read-ne0 c =
-    (analysed_faulty _ _ _ _ c.read_table-read.ensures.number c.read_table-read.ensures.place c.if-read-ne0.true c.requires.least_room_in_bounds, omega arith)
+    record {
+      analysed = analysed_faulty _ _ _ _ c.read_table-read.ensures.number c.read_table-read.ensures.place c.if-read-ne0.true c.requires.least_room_in_bounds;
+      written_le_least_room = omega arith;
+    }
 
 pub slice_bounds-decide-end-2 : goal.slice_bounds-decide-end-2
 slice_bounds-decide-end-2 c =
@@ -27,4 +29,7 @@ pub returns : goal.returns
 returns c =
     let read = c.read_table-read.ensures in
     let decided = c.decide.ensures in
-    (analysed_decided _ (table_read read) (sym read.number ∙ c.if-read-ne0.false) c.requires.least_room_in_bounds decided, written_room (formed_read _ read c.if-read-ne0.false) c.requires.least_room_in_bounds decided)
+    record {
+      analysed = analysed_decided _ (table_read read) (sym read.number ∙ c.if-read-ne0.false) c.requires.least_room_in_bounds decided;
+      written_le_least_room = written_room (formed_read _ read c.if-read-ne0.false) c.requires.least_room_in_bounds decided;
+    }

@@ -1,7 +1,6 @@
 -- By the kind of the link.
 use borrow.Author.Tests.{eq-eqb, ne_eqb}
 use Rattle.encoding.specs.EncodingLaws.{link_length}
-use borrow.Author.Rules.{rules}
 use Rattle.encoding.proofs.link_size.Goals as goal
 
 pub returns-then-kind-eq3 : goal.returns-then-kind-eq3

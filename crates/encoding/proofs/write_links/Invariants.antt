@@ -1,12 +1,10 @@
 -- Each turn of the loop writes the record of one link more behind the others.
 use Prim.Native.Nat.{◌-◌}
-use native.Mathlib.Omega.{arith}
-use lib.ListN.{length, length-take, length-drop}
+use lib.ListN.{length}
 use Rattle.specification.specs.Table.{no_link}
 use Rattle.specification.specs.Encoding.{encode_link}
 use Rattle.table.specs.Slices.{links_of}
-use Rattle.encoding.specs.SoFar.{WrittenFirst, written_none, next_room, written_on, written_all}
-use borrow.Author.Rules.{rules}
+use Rattle.encoding.specs.SoFar.{WrittenFirst}
 use Rattle.encoding.proofs.write_links.Given as goal
 
 abbrev pub invariant-loop-k : goal.invariant-loop-k

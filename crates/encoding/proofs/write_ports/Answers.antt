@@ -1,13 +1,8 @@
 -- Each turn of the loop writes the record of one port more behind the others.
-use Prim.Native.Nat.{◌-◌}
 use native.Mathlib.Omega.{arith}
-use lib.ListN.{length, length-take, length-drop}
-use Rattle.specification.specs.Table.{no_port}
-use Rattle.specification.specs.Encoding.{encode_port}
-use Rattle.table.specs.Slices.{ports_of}
+use lib.ListN.{length-take, length-drop}
 use Rattle.encoding.specs.EncodingLaws.{port_length}
-use Rattle.encoding.specs.SoFar.{WrittenFirst, written_none, next_room, written_on, written_all}
-use borrow.Author.Rules.{rules}
+use Rattle.encoding.specs.SoFar.{written_none, next_room, written_on, written_all}
 use Rattle.encoding.proofs.write_ports.Goals as goal
 
 pub loop-p-init : goal.loop-p-init

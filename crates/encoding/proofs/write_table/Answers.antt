@@ -5,7 +5,6 @@ use Rattle.table.specs.Slices.{table_of}
 use Rattle.specification.specs.Encoding.{encode_table}
 use Rattle.records.specs.WrittenLaws.{written_append}
 use Rattle.encoding.specs.EncodingLaws.{table_length}
-use borrow.Author.Rules.{rules}
 use Rattle.encoding.proofs.write_table.Goals as goal
 
 pub write_ports-at-requires : goal.write_ports-at-requires
@@ -19,7 +18,7 @@ slice_bounds-write_links-start c = omega (arith, c.write_ports-at.ensures.counte
 
 pub write_links-requires : goal.write_links-requires
 write_links-requires c =
-    (c.requires.links_fit, simp (length-take, length-drop) (omega (arith, c.write_ports-at.ensures.counted, table_length (table_of c.args.ports.now c.args.links.now), c.requires.links_in_bounds)))
+    record { links_fit = c.requires.links_fit; links_in_bounds = simp (length-take, length-drop) (omega (arith, c.write_ports-at.ensures.counted, table_length (table_of c.args.ports.now c.args.links.now), c.requires.links_in_bounds)) }
 
 pub overflow_add-result : goal.overflow_add-result
 overflow_add-result c =

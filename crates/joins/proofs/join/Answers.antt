@@ -2,7 +2,6 @@
 use native.Mathlib.Omega.{arith}
 use lib.ListN.{length-take}
 use Rattle.joins.proofs.Outcomes.{refused, few_ports, links_fit, written_joined}
-use borrow.Author.Rules.{rules}
 use Rattle.joins.proofs.join.Goals as goal
 
 pub returns-then-read-ne0 : goal.returns-then-read-ne0
@@ -18,7 +17,7 @@ pub write_joined-requires : goal.write_joined-requires
 write_joined-requires c =
     let read = c.read_inputs-read.ensures in
     let none = c.if-read-ne0.false in
-    (few_ports read none, links_fit read none)
+    record { ports_len_bound = few_ports read none; links_fit = links_fit read none }
 
 pub returns : goal.returns
 returns c = written_joined c.read_inputs-read.ensures c.if-read-ne0.false c.write_joined.ensures

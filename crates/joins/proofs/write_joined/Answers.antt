@@ -1,11 +1,10 @@
 -- By whether there is room.
 use native.Mathlib.Omega.{arith}
 use Rattle.joins.proofs.Outcomes.{too_short, long_enough}
-use borrow.Author.Rules.{rules}
 use Rattle.joins.proofs.write_joined.Goals as goal
 
 pub returns-then-out-table_size : goal.returns-then-out-table_size
-returns-then-out-table_size c = too_short _ (omega (arith, c.table_size_lem.ensures))
+returns-then-out-table_size c = too_short _ (omega (arith, c.table_size.ensures))
 
 pub returns : goal.returns
-returns c = long_enough _ (omega (arith, c.table_size_lem.ensures)) c.write_table-written.ensures
+returns c = long_enough _ (omega (arith, c.table_size.ensures)) c.write_table-written.ensures

@@ -2,7 +2,6 @@
 use mathlib.Core.Path.{sym}
 use native.Mathlib.Omega.{arith}
 use lib.ListN.{length-take}
-use borrow.Author.Rules.{rules}
 use Rattle.report.proofs.Texts.{printed_text}
 use Rattle.report.proofs.print_answer.Goals as goal
 
@@ -15,4 +14,4 @@ print-requires c = simp length-take (omega (arith, c.analyse-r.ensures.written_l
 pub returns : goal.returns
 returns c =
     let w = c.print.ensures in
-    printed_text c.analyse-r.ensures.analysed (sym c.answer_room-answer.ensures) w.0 w.1
+    printed_text c.analyse-r.ensures.analysed (sym c.answer_room-answer.ensures) w.written w.upper_bound

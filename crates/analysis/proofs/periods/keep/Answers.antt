@@ -1,10 +1,8 @@
 -- After i turns the first i ports hold their numbers.
-use Prim.Native.Nat.{◌-◌}
 use mathlib.Core.Path.{refl}
 use native.Mathlib.Omega.{arith}
-use borrow.Author.Rules.{rules}
-use lib.ListN.{length, length-set}
-use Rattle.analysis.proofs.periods.Keeping.{low_at, Keeping, keeping_none, keeping_on, keeping_all}
+use lib.ListN.{length-set}
+use Rattle.analysis.proofs.periods.Keeping.{low_at, keeping_none, keeping_on, keeping_all}
 use Rattle.analysis.proofs.periods.keep.Goals as goal
 
 pub bounds-members-0 : goal.bounds-members-0
@@ -64,7 +62,7 @@ bounds-kept-p-in-loop-i-3 c =
 
 pub loop-i-preserved : goal.loop-i-preserved
 loop-i-preserved c =
-    keeping_on c.loop-i.invariant c.loop-i-test.true (low_at c.requires.members c.loop-i-test.true) c.requires.kept_len refl c.start_of_lem.ensures
+    keeping_on c.loop-i.invariant c.loop-i-test.true (low_at c.requires.members c.loop-i-test.true) c.requires.kept_len refl c.start_of-start.ensures
 
 pub returns : goal.returns
 returns c = keeping_all c.loop-i.invariant c.loop-i-test.false

@@ -1,6 +1,5 @@
 -- A list has 0 past its end.
 use mathlib.Core.Path.{sym}
-use borrow.Author.Rules.{rules}
 use lib.ListN.{get_or-eq_default}
 use Rattle.analysis.proofs.periods.start_of.Goals as goal
 

@@ -1,13 +1,9 @@
 -- The components below c have periods, those kept are the least, and nothing is written. The measure is how many ports are left.
-use Prim.Native.Nat.{◌-◌}
-use mathlib.Core.Path.{◌≡◌, refl, ap, ◌∙◌}
-use mathlib.Core.Logic.{⊎_elim}
+use mathlib.Core.Path.{refl}
 use native.Mathlib.Omega.{arith}
-use borrow.Author.Rules.{rules}
-use lib.ListN.{length}
-use Rattle.table.specs.Slices.{table_of}
-use Rattle.analysis.proofs.periods.Turns.{Turns, turns_first, members_part, numbers_part, component_slices, part_room, turns_skip, turns_least, turns_no_least, turns_shown, turns_without, all_numbers, turns_all}
+use Rattle.analysis.proofs.periods.Turns.{turns_first, members_part, numbers_part, component_slices, part_room, turns_skip, turns_least, turns_no_least, turns_shown, turns_without, all_numbers, turns_all}
 use Rattle.analysis.proofs.periods.time_all.Goals as goal
+use Rattle.analysis.proofs.periods.time_all.Goals.{then-member-member_end+in-Least, then-member-member_end+in-NoLeast, else-member-member_end}
 
 pub loop-c-init : goal.loop-c-init
 loop-c-init c = (turns_first _ c.requires refl, refl)
@@ -53,21 +49,26 @@ slice_bounds-time_one-end-then-member-member_end c = omega (arith, numbers_part 
 
 pub time_one-one-requires : goal.time_one-one-requires
 time_one-one-requires c =
-    (component_slices c.loop-c.invariant.0 (omega arith) c.if-member-member_end.true, (omega (arith, part_room c.loop-c.invariant.0 (omega arith) c.if-member-member_end.true, c.loop-c.invariant.1), c.loop-c.invariant.0.long))
+    record {
+      component_slices = component_slices c.loop-c.invariant.0 (omega arith) c.if-member-member_end.true;
+      numbers_in_bounds = omega (arith, part_room c.loop-c.invariant.0 (omega arith) c.if-member-member_end.true, c.loop-c.invariant.1);
+      kept_len = c.loop-c.invariant.0.long;
+    }
 
 pub returns-in-Shown : goal.returns-in-Shown
 returns-in-Shown c =
-    rw c.number_of_lem.ensures (turns_shown c.loop-c.invariant.0 (omega arith) c.if-member-member_end.true (rw c.one-1.given.1 at c.time_one-one.ensures))
+    rw c.number_of.ensures (turns_shown c.loop-c.invariant.0 (omega arith) c.if-member-member_end.true (rw c.in-Shown.is at c.time_one-one.ensures))
 
 pub loop-c-preserved : goal.loop-c-preserved
 loop-c-preserved c =
-    let turns = c.loop-c.invariant in
-    ⊎_elim
-    (λ w. (rw (w.15, w.16, w.17) (turns_least turns.0 (omega arith) w.0.taken (rw w.13.given.1 at w.6.ensures)), ap length w.14 ∙ w.7.given ∙ turns.1))
-    (⊎_elim
-    (λ w. (rw (w.15, w.16, w.17) (turns_no_least turns.0 (omega arith) w.0.taken (rw w.13.given.1 at w.6.ensures)), ap length w.14 ∙ w.7.given ∙ turns.1))
-    (λ w. (rw (w.2, w.3, w.4) (turns_skip turns.0 (omega arith) w.0.left), ap length w.1 ∙ turns.1)))
-    c.if-member-member_end.branch
+    let turns = c.loop-c.invariant in (
+      elim c.if-member-member_end.branch [
+        | then-member-member_end+in-Least w ↦ rw (w.answer-is, w.kept-is, w.least-is) (turns_least turns.0 (omega arith) w.if-member-member_end.true (rw w.in-Least.is at w.time_one-one.ensures))
+        | then-member-member_end+in-NoLeast w ↦ rw (w.answer-is, w.kept-is, w.least-is) (turns_no_least turns.0 (omega arith) w.if-member-member_end.true (rw w.in-NoLeast.is at w.time_one-one.ensures))
+        | else-member-member_end w ↦ rw (w.answer-is, w.kept-is, w.least-is) (turns_skip turns.0 (omega arith) w.if-member-member_end.false)
+      ],
+      omega arith,
+    )
 
 pub show_consistent-written-requires : goal.show_consistent-written-requires
 show_consistent-written-requires c =

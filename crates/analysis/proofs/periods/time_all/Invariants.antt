@@ -1,12 +1,9 @@
 -- The components below c have periods, those kept are the least, and nothing is written. The measure is how many ports are left.
 use Prim.Native.Nat.{◌-◌}
-use mathlib.Core.Path.{◌≡◌, refl, ap, ◌∙◌}
-use mathlib.Core.Logic.{⊎_elim}
-use native.Mathlib.Omega.{arith}
-use borrow.Author.Rules.{rules}
+use mathlib.Core.Path.{◌≡◌}
 use lib.ListN.{length}
 use Rattle.table.specs.Slices.{table_of}
-use Rattle.analysis.proofs.periods.Turns.{Turns, turns_first, members_part, numbers_part, component_slices, part_room, turns_skip, turns_least, turns_no_least, turns_shown, turns_without, all_numbers, turns_all}
+use Rattle.analysis.proofs.periods.Turns.{Turns}
 use Rattle.analysis.proofs.periods.time_all.Given as goal
 
 abbrev pub invariant-loop-c : goal.invariant-loop-c

@@ -3,7 +3,6 @@ use mathlib.Core.Path.{sym, ◌∙◌}
 use native.Mathlib.Omega.{arith}
 use lib.ListN.{length}
 use borrow.Author.Tests.{ltb-true, ltb-false}
-use borrow.Author.Rules.{rules}
 use Rattle.specification.specs.Answers.{least_room}
 use Rattle.analysis.specs.ShownLaws.{shown_short, shown_all}
 use Rattle.analysis.proofs.show.show_blocked.Goals as goal
@@ -13,7 +12,10 @@ returns-then-too_short c = shown_short _ _ (ltb-true _ _ (sym c.too_short.ensure
 
 pub write_blocked-requires : goal.write_blocked-requires
 write_blocked-requires c =
-    (c.requires, omega (arith, ltb-false (length c.args.answer.now) least_room (sym c.too_short.ensures ∙ c.if-too_short.false)))
+    record {
+      named_block = c.requires;
+      in_bounds = omega (arith, ltb-false (length c.args.answer.now) least_room (sym c.too_short.ensures ∙ c.if-too_short.false));
+    }
 
 pub returns : goal.returns
 returns c =

@@ -3,7 +3,6 @@ use mathlib.Core.Path.{sym, ◌∙◌}
 use native.Mathlib.Omega.{arith}
 use lib.ListN.{length}
 use borrow.Author.Tests.{ltb-true, ltb-false}
-use borrow.Author.Rules.{rules}
 use Rattle.specification.specs.Answers.{least_room}
 use Rattle.analysis.specs.ShownLaws.{shown_short, shown_all}
 use Rattle.analysis.proofs.show.show_loop.Goals as goal

@@ -1,7 +1,6 @@
 -- The events stand right behind the fields.
 use Rattle.specification.specs.Bytes.{bytes}
 use Rattle.specification.specs.Encoding.{link_fields, connection_fields}
-use borrow.Author.Rules.{rules}
 use Rattle.encoding.proofs.record.put_connection.Goals as goal
 
 pub returns : goal.returns

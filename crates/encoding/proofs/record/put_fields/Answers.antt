@@ -1,7 +1,6 @@
 -- The five stores follow one another, so they are one store of all fields.
 use Rattle.specification.specs.Bytes.{bytes}
 use Rattle.specification.specs.Encoding.{link_fields}
-use borrow.Author.Rules.{rules}
 use Rattle.encoding.proofs.record.put_fields.Goals as goal
 
 pub returns : goal.returns

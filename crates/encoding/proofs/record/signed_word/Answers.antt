@@ -1,5 +1,4 @@
 -- By whether there is an amount back.
-use borrow.Author.Rules.{rules}
 use borrow.Author.Tests.{eq-eqb, ne_eqb}
 use Rattle.specification.specs.Encoding.{signed_word}
 use Rattle.encoding.proofs.record.signed_word.Goals as goal

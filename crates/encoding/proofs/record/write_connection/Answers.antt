@@ -3,7 +3,6 @@ use mathlib.Core.Path.{refl}
 use Rattle.specification.specs.Bytes.{bytes, encode}
 use Rattle.specification.specs.Encoding.{link_fields, connection_fields}
 use Rattle.records.specs.WrittenLaws.{written}
-use borrow.Author.Rules.{rules}
 use Rattle.encoding.proofs.record.write_connection.Goals as goal
 
 pub returns : goal.returns

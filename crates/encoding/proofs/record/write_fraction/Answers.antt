@@ -3,16 +3,14 @@ use mathlib.Core.Path.{refl}
 use Rattle.specification.specs.Bytes.{bytes, encode}
 use Rattle.specification.specs.Encoding.{link_fields, connection_fields}
 use Rattle.records.specs.WrittenLaws.{written}
-use borrow.Author.Rules.{rules}
 use Rattle.encoding.proofs.record.write_fraction.Goals as goal
 
 pub returns : goal.returns
 unfolding connection_fields link_fields encode bytes
 returns c =
-    let given = c.requires in
     written (rw (
       c.put_number-3.ensures,
       c.put_connection.ensures,
       c.put_number-2.ensures,
       c.put_number.ensures,
-    )) refl given.0
+    )) refl c.requires.in_bounds

@@ -3,7 +3,6 @@ use mathlib.Core.Path.{refl}
 use Rattle.specification.specs.Bytes.{bytes, encode}
 use Rattle.specification.specs.Encoding.{encode_port}
 use Rattle.records.specs.WrittenLaws.{written}
-use borrow.Author.Rules.{rules}
 use Rattle.encoding.proofs.record.write_port.Goals as goal
 
 pub returns : goal.returns

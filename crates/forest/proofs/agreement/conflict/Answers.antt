@@ -1,12 +1,7 @@
 -- The rows fit every link passed so far.
-use Rattle.table.specs.Slices.{links_of, table_of}
-use lib.ListN.{length}
-use Prim.Native.Nat.{◌-◌}
 use native.Mathlib.Omega.{arith}
-use borrow.Author.Tests.{not-true, not-false}
-use borrow.Author.Rules.{rules}
 use Rattle.forest.proofs.agreement.TreeLinks.{later_either, end_low, over_known}
-use Rattle.forest.proofs.agreement.Scanned.{Scanned, link_low, scanned_none, scanned_on, scanned_conflict, scanned_all}
+use Rattle.forest.proofs.agreement.Scanned.{link_low, scanned_none, scanned_on, scanned_conflict, scanned_all}
 use Rattle.forest.proofs.agreement.conflict.Goals as goal
 
 pub loop-k-init : goal.loop-k-init
@@ -26,9 +21,8 @@ pub at-m-requires : goal.at-m-requires
 at-m-requires c =
     let l = c.at-l.result in
     let end = later_either c.args.reach.now l.from l.to c.later-at.ensures in
-    let given = c.requires in
     let args = c.args in
-    (over_known given.0 (omega arith) c.at-l.ensures end args.labels.now args.via.now given.1.1.0 c.tree_link-tree.ensures).below
+    (over_known c.requires.well_formed (omega arith) c.at-l.ensures end args.labels.now args.via.now c.requires.over_forest c.tree_link-tree.ensures).below
 
 pub agrees-requires : goal.agrees-requires
 agrees-requires c =
@@ -36,18 +30,20 @@ agrees-requires c =
     let args = c.args in
     let l = c.at-l.result in
     let end = later_either args.reach.now l.from l.to c.later-at.ensures in
-    let known = over_known given.0 (omega arith) c.at-l.ensures end args.labels.now args.via.now given.1.1.0 c.tree_link-tree.ensures in
-    let one = link_low given.0 (omega arith) c.at-l.ensures in
-    let other = link_low given.0 known.below c.at-m.ensures in
-    (one, (other, (given.1.0, (rw c.at-m.ensures known.fits, given.1.1.1))))
+    let known = over_known c.requires.well_formed (omega arith) c.at-l.ensures end args.labels.now args.via.now c.requires.over_forest c.tree_link-tree.ensures in
+    record {
+      link_fits = link_low c.requires.well_formed (omega arith) c.at-l.ensures;
+      link_fits_2 = link_low c.requires.well_formed known.below c.at-m.ensures;
+      port_rows = c.requires.port_rows;
+      known_to_fit = rw c.at-m.ensures known.fits;
+      lent = c.requires.lent;
+    }
 
 pub returns-then-not-agrees : goal.returns-then-not-agrees
-returns-then-not-agrees c =
-    scanned_conflict c.loop-k.invariant c.at-l.ensures c.agrees.ensures (not-true c.agrees.result c.if-not-agrees.true)
+returns-then-not-agrees c = scanned_conflict c.loop-k.invariant c.at-l.ensures c.agrees.ensures c.if-not-agrees.true
 
 pub loop-k-preserved : goal.loop-k-preserved
-loop-k-preserved c =
-    scanned_on c.loop-k.invariant c.at-l.ensures c.agrees.ensures (omega arith) (not-false c.agrees.result c.if-not-agrees.false)
+loop-k-preserved c = scanned_on c.loop-k.invariant c.at-l.ensures c.agrees.ensures (omega arith) c.if-not-agrees.false
 
 pub returns : goal.returns
 returns c = scanned_all c.loop-k.invariant (omega arith)

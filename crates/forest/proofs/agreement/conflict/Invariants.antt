@@ -2,11 +2,7 @@
 use Rattle.table.specs.Slices.{links_of, table_of}
 use lib.ListN.{length}
 use Prim.Native.Nat.{◌-◌}
-use native.Mathlib.Omega.{arith}
-use borrow.Author.Tests.{not-true, not-false}
-use borrow.Author.Rules.{rules}
-use Rattle.forest.proofs.agreement.TreeLinks.{later_either, end_low, over_known}
-use Rattle.forest.proofs.agreement.Scanned.{Scanned, link_low, scanned_none, scanned_on, scanned_conflict, scanned_all}
+use Rattle.forest.proofs.agreement.Scanned.{Scanned}
 use Rattle.forest.proofs.agreement.conflict.Given as goal
 
 abbrev pub invariant-loop-k : goal.invariant-loop-k

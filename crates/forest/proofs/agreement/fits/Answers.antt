@@ -4,17 +4,20 @@ use borrow.Author.Rules.{rules}
 use Rattle.forest.proofs.agreement.fits.Goals as goal
 
 pub same_rows-requires : goal.same_rows-requires
-same_rows-requires c =
-    (row_at _ c.requires.port_rows.0 c.requires.link_fits.to, row_at _ c.requires.port_rows.0 c.requires.link_fits.from)
+same_rows-requires c = record {
+  row_at = row_at _ c.requires.port_rows c.requires.link_fits.to;
+  row_at_2 = row_at _ c.requires.port_rows c.requires.link_fits.from;
+}
 
 pub returns-then-l : goal.returns-then-l
-returns-then-l c =
-    compared_rows c.requires.link_fits c.requires.port_rows.0 c.if-l.true c.same_rows.ensures
+returns-then-l c = compared_rows c.requires.link_fits c.requires.port_rows c.if-l.true c.same_rows.ensures
 
 pub scaled-row-requires : goal.scaled-row-requires
-scaled-row-requires c =
-    (c.requires.port_rows.1, (room_multiply _ _ c.requires.port_rows.0 c.requires.link_fits.to c.requires.link_fits.num, room_divide _ _ c.requires.port_rows.0 c.requires.link_fits.to c.requires.link_fits.den))
+scaled-row-requires c = record {
+  lent = c.requires.lent;
+  room_to_multiply = room_multiply _ _ c.requires.port_rows c.requires.link_fits.to c.requires.link_fits.num;
+  room_to_divide = room_divide _ _ c.requires.port_rows c.requires.link_fits.to c.requires.link_fits.den;
+}
 
 pub returns : goal.returns
-returns c =
-    compared c.requires.link_fits c.requires.port_rows.0 c.scaled-row.ensures (search rules) c.same.ensures
+returns c = compared c.requires.link_fits c.requires.port_rows c.scaled-row.ensures (search rules) c.same.ensures

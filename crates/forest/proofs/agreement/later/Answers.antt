@@ -1,6 +1,5 @@
 -- By the test.
 use borrow.Author.Tests.{lt-ltb, le-ltb}
-use borrow.Author.Rules.{rules}
 use Rattle.forest.proofs.agreement.later.Goals as goal
 
 pub returns-then-reach-p : goal.returns-then-reach-p

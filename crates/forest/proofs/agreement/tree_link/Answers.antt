@@ -1,6 +1,5 @@
 -- The lowest port of a component was reached over none.
 use Rattle.forest.proofs.agreement.TreeLinks.{over_none, over_via_lem}
-use borrow.Author.Rules.{rules}
 use Rattle.forest.proofs.agreement.tree_link.Goals as goal
 
 pub returns-then-labels-p : goal.returns-then-labels-p

@@ -1,9 +1,6 @@
 -- Each turn of the loop copies one number more. The measure is how many are left.
-use native.Mathlib.Omega.{arith}
-use Rattle.forest.proofs.loops.Copying.{copied_none, copied_more, copied_all}
 use Prim.Native.Nat.{◌-◌}
 use Rattle.forest.specs.StepNumbers.{Copied}
-use borrow.Author.Rules.{rules}
 use Rattle.forest.proofs.loops.append.Given as goal
 
 abbrev pub invariant-loop-from : goal.invariant-loop-from

@@ -1,9 +1,8 @@
 -- Each turn of the loop goes up from the end that was reached later. The measure is the sum of the places of both in the order.
 use Prim.Native.Nat.{◌+◌}
 use lib.ListN.{get_or}
-use borrow.Author.Rules.{rules}
 use Rattle.table.specs.Slices.{table_of}
-use Rattle.forest.proofs.loops.Writing.{Turn, turn_none, up_climbable, up_fits, turn_up, down_climbable, down_room, down_fits, turn_down, turn_met}
+use Rattle.forest.proofs.loops.Writing.{Turn}
 use Rattle.forest.proofs.loops.climb.Given as goal
 
 abbrev pub invariant-loop-a : goal.invariant-loop-a

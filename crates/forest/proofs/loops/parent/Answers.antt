@@ -1,7 +1,6 @@
 -- The link over which the port was reached has the port and its parent as its ends.
 use mathlib.Core.Path.{sym, ◌∙◌}
 use Rattle.forest.proofs.loops.Parents.{parent_along, parent_against}
-use borrow.Author.Rules.{rules}
 use Rattle.forest.proofs.loops.parent.Goals as goal
 
 pub returns-then-from-p : goal.returns-then-from-p

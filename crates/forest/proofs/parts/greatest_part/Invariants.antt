@@ -2,10 +2,7 @@
 use Rattle.table.specs.Slices.{links_of, table_of}
 use lib.ListN.{length}
 use Prim.Native.Nat.{◌-◌}
-use native.Mathlib.Omega.{arith}
-use mathlib.Core.Logic.{⊎_elim}
-use Rattle.forest.proofs.parts.Most.{MostBelow, most_none, most_on, most_off, most_all}
-use borrow.Author.Rules.{rules}
+use Rattle.forest.proofs.parts.Most.{MostBelow}
 use Rattle.forest.proofs.parts.greatest_part.Given as goal
 
 abbrev pub invariant-loop-k : goal.invariant-loop-k

@@ -2,10 +2,7 @@
 use Rattle.table.specs.Slices.{links_of, table_of}
 use lib.ListN.{length}
 use Prim.Native.Nat.{◌-◌}
-use native.Mathlib.Omega.{arith}
 use Rattle.forest.specs.Spreading.{forest_of, Passed}
-use Rattle.forest.proofs.spanning.Passing.{Named, passed_none, passed_all, follow_forth, follow_back, spreading_forth, passed_on}
-use borrow.Author.Rules.{rules}
 use Rattle.forest.proofs.spanning.pass.Given as goal
 
 abbrev pub invariant-loop-k : goal.invariant-loop-k

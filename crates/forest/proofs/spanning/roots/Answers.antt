@@ -1,11 +1,9 @@
 -- Each turn of the loop passes one port more. The measure is how many are left.
-use Prim.Native.Nat.{◌-◌}
-use mathlib.Core.Logic.{⊎_elim}
 use native.Mathlib.Omega.{arith}
-use Rattle.forest.specs.Spreading.{forest_of}
-use Rattle.forest.proofs.spanning.Rooting.{Rooting, rooting_none, rooting_few, rooting_below, rooting_on, rooting_off, rooting_all}
+use Rattle.forest.proofs.spanning.Rooting.{rooting_none, rooting_few, rooting_below, rooting_on, rooting_off, rooting_all}
 use borrow.Author.Rules.{rules}
 use Rattle.forest.proofs.spanning.roots.Goals as goal
+use Rattle.forest.proofs.spanning.roots.Goals.{then-labels-p, else-labels-p}
 
 pub loop-p-init : goal.loop-p-init
 loop-p-init c = rooting_none c.requires.unreached
@@ -22,10 +20,10 @@ bounds-via-p c = search (rooting_below, rules)
 
 pub loop-p-preserved : goal.loop-p-preserved
 loop-p-preserved c =
-    ⊎_elim
-    (λ w. rw (w.3, w.2, w.1) (rooting_on c.loop-p.invariant c.requires.rootable c.loop-p-test.true w.0.taken))
-    (λ w. rw (w.3, w.2, w.1) (rooting_off c.loop-p.invariant c.requires.rootable c.loop-p-test.true w.0.left))
-    c.if-labels-p.branch
+    elim c.if-labels-p.branch [
+      | then-labels-p w ↦ rw (w.reach-is, w.via-is, w.count-is) (rooting_on c.loop-p.invariant c.requires.rootable c.loop-p-test.true w.if-labels-p.true)
+      | else-labels-p w ↦ rw (w.reach-is, w.via-is, w.count-is) (rooting_off c.loop-p.invariant c.requires.rootable c.loop-p-test.true w.if-labels-p.false)
+    ]
 
 pub returns : goal.returns
 returns c = rooting_all c.loop-p.invariant c.loop-p-test.false

@@ -1,10 +1,7 @@
 -- Each turn of the loop passes one port more. The measure is how many are left.
 use Prim.Native.Nat.{◌-◌}
-use mathlib.Core.Logic.{⊎_elim}
-use native.Mathlib.Omega.{arith}
 use Rattle.forest.specs.Spreading.{forest_of}
-use Rattle.forest.proofs.spanning.Rooting.{Rooting, rooting_none, rooting_few, rooting_below, rooting_on, rooting_off, rooting_all}
-use borrow.Author.Rules.{rules}
+use Rattle.forest.proofs.spanning.Rooting.{Rooting}
 use Rattle.forest.proofs.spanning.roots.Given as goal
 
 abbrev pub invariant-loop-p : goal.invariant-loop-p

@@ -1,11 +1,7 @@
 -- Each pass but the last reaches a port. The measure is how many of 64 are left.
-use borrow.Author.Rules.{rules}
 use Rattle.table.specs.Slices.{table_of}
 use Prim.Native.Nat.{◌-◌}
-use mathlib.Core.Path.{refl}
 use Rattle.forest.specs.Spreading.{forest_of, Spreading}
-use Rattle.forest.proofs.spanning.Spanning.{passed_less, closed_spanned}
-use Rattle.forest.proofs.spanning.Starting.{start_rootable, start_spreading}
 use Rattle.forest.proofs.spanning.spanned.Given as goal
 
 abbrev pub invariant-loop-count : goal.invariant-loop-count

@@ -1,13 +1,9 @@
 -- Each turn of the loop writes one number. The measure is how many links are left.
-use Prim.Native.Nat.{◌-◌}
 use mathlib.Core.Path.{refl}
 use native.Mathlib.Omega.{arith}
-use borrow.Author.Rules.{rules}
-use Rattle.table.specs.Slices.{table_of}
-use Rattle.specification.specs.Table.{link_count}
 use Rattle.graph.specs.Owners.{owners_of}
 use Rattle.graph.proofs.connections.Owned.{sender_low, owner_on}
-use Rattle.graph.proofs.connections.Filling.{Filling, filling_none, filling_all}
+use Rattle.graph.proofs.connections.Filling.{filling_none, filling_all}
 use Rattle.graph.proofs.connections.owners_of.Goals as goal
 
 pub loop-k-init : goal.loop-k-init

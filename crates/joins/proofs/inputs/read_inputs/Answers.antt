@@ -1,7 +1,6 @@
 -- By whether a table has a fault.
 use native.Mathlib.Omega.{arith}
 use Rattle.joins.proofs.inputs.Held.{held_room, added_next, tables_faulty, all_read}
-use borrow.Author.Rules.{rules}
 use Rattle.joins.proofs.inputs.read_inputs.Goals as goal
 
 pub returns-then-both-ne0 : goal.returns-then-both-ne0

@@ -1,7 +1,6 @@
 -- By whether the first table has a fault.
 use native.Mathlib.Omega.{arith}
 use Rattle.joins.proofs.inputs.Held.{held_room, first_next, first_faulty, tables_read}
-use borrow.Author.Rules.{rules}
 use Rattle.joins.proofs.inputs.read_tables.Goals as goal
 
 pub returns-then-a-ne0 : goal.returns-then-a-ne0

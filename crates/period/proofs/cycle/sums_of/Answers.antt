@@ -1,10 +1,6 @@
 -- `period::cycle::sums_of` meets its contract. The invariant: the four sums are those of the first i edges. The measure is how many edges are left.
-use Prim.Native.Nat.{◌-◌}
-use lib.ListN.{length}
 use native.Mathlib.Omega.{arith}
-use Rattle.table.specs.Slices.{links_of}
-use Rattle.period.specs.Edges.{edges_of}
-use Rattle.period.proofs.cycle.Summed.{path_readable, small_edge, Summed, summed_none, summed_more, summed_all}
+use Rattle.period.proofs.cycle.Summed.{path_readable, small_edge, summed_none, summed_more, summed_all}
 use borrow.Author.Rules.{rules}
 use Rattle.period.proofs.cycle.sums_of.Goals as goal
 

@@ -1,6 +1,5 @@
 -- Each sum of two products is small, so the products fit too.
 use native.Mathlib.Omega.{arith}
-use borrow.Author.Rules.{rules}
 use Rattle.period.proofs.delay.Bounds.{bounds}
 use Rattle.period.proofs.delay.delay.Goals as goal
 

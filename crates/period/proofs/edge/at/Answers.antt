@@ -1,7 +1,6 @@
 -- The numbers of the connection are read, and those of its events fit when they are weighed and divided.
 use native.Mathlib.Omega.{arith}
 use Rattle.period.proofs.edge.Read.{read_sender, read_forward, read_back, read_edge}
-use borrow.Author.Rules.{rules}
 use Rattle.period.proofs.edge.at.Goals as goal
 
 pub overflow_cast-over : goal.overflow_cast-over

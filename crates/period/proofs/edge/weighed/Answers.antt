@@ -3,7 +3,6 @@ use mathlib.Core.Path.{sym}
 use native.Mathlib.Nat.{div-one}
 use native.Mathlib.Omega.{arith}
 use Rattle.period.proofs.edge.Read.{weighed_fits}
-use borrow.Author.Rules.{rules}
 use Rattle.period.proofs.edge.weighed.Goals as goal
 
 pub overflow_mul-product : goal.overflow_mul-product

@@ -1,13 +1,10 @@
 -- `period::limit::greatest_limit` meets its contract. The invariant: greatest is zero, or the rate limit of the port that the floor names,
 -- the first with the greatest among the first i ports. The measure is how many ports are left.
-use mathlib.Core.Logic.{⊎_elim}
 use Prim.Native.Nat.{◌-◌}
 use lib.ListN.{length}
 use Rattle.table.specs.Slices.{ports_of}
 use Rattle.period.specs.Edges.{limits_of}
-use Rattle.period.proofs.limit.Read.{has_limit}
-use Rattle.period.proofs.limit.Leading.{Leading, leading_none, leading_new, leading_kept, leading_last}
-use borrow.Author.Rules.{rules}
+use Rattle.period.proofs.limit.Leading.{Leading}
 use Rattle.period.proofs.limit.greatest_limit.Given as goal
 
 abbrev pub invariant-loop-i : goal.invariant-loop-i

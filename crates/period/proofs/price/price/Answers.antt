@@ -1,10 +1,7 @@
 -- Each turn of the loop stores the four numbers of one edge more.
-use Prim.Native.Nat.{◌-◌}
-use lib.ListN.{length, length-set}
-use Rattle.table.specs.Slices.{links_of}
-use Rattle.period.specs.Edges.{edges_of}
+use lib.ListN.{length-set}
 use Rattle.period.specs.EdgesLaws.{edges_count, edge_readable}
-use Rattle.period.proofs.price.Filled.{Filled, filled_none, filled_small, filled_on, filled_all}
+use Rattle.period.proofs.price.Filled.{filled_none, filled_small, filled_on, filled_all}
 use borrow.Author.Rules.{rules}
 use Rattle.period.proofs.price.price.Goals as goal
 

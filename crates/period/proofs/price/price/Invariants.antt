@@ -1,11 +1,9 @@
 -- Each turn of the loop stores the four numbers of one edge more.
 use Prim.Native.Nat.{◌-◌}
-use lib.ListN.{length, length-set}
+use lib.ListN.{length}
 use Rattle.table.specs.Slices.{links_of}
 use Rattle.period.specs.Edges.{edges_of}
-use Rattle.period.specs.EdgesLaws.{edges_count, edge_readable}
-use Rattle.period.proofs.price.Filled.{Filled, filled_none, filled_small, filled_on, filled_all}
-use borrow.Author.Rules.{rules}
+use Rattle.period.proofs.price.Filled.{Filled}
 use Rattle.period.proofs.price.price.Given as goal
 
 abbrev pub invariant-loop-k : goal.invariant-loop-k

@@ -1,12 +1,8 @@
 -- Each a/b tried is the floor's limit or just above zero, and the next is greater.
-use mathlib.Core.Path.{refl}
-use native.Mathlib.Omega.{arith}
-use borrow.Author.Rules.{rules}
 use Rattle.table.specs.Slices.{ports_of, links_of}
 use Rattle.period.specs.Component.{just_above}
 use Rattle.period.specs.Edges.{limits_of, edges_of}
-use Rattle.period.specs.EdgesLaws.{edges_count}
-use Rattle.period.proofs.search.Searching.{Searching, searching_first, searching_tries, searching_settled, searching_sums, searching_within, searching_blocked, searching_gains, searching_falls, searching_next}
+use Rattle.period.proofs.search.Searching.{Searching}
 use Rattle.period.proofs.search.Falls.{left}
 use Rattle.period.proofs.search.least_period.Given as goal
 

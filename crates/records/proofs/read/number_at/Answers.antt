@@ -1,7 +1,6 @@
 -- By the bytes that are read.
 use native.Mathlib.Omega.{arith}
-use borrow.Author.Rules.{rules}
-use Rattle.records.proofs.read.Reading.{Reading, reading_none, reading_more, reading_small, reading_all}
+use Rattle.records.proofs.read.Reading.{reading_none, reading_more, reading_small, reading_all}
 use Rattle.records.proofs.read.number_at.Goals as goal
 
 pub loop-left-init : goal.loop-left-init

@@ -1,7 +1,5 @@
 -- By the bytes that are read.
-use native.Mathlib.Omega.{arith}
-use borrow.Author.Rules.{rules}
-use Rattle.records.proofs.read.Reading.{Reading, reading_none, reading_more, reading_small, reading_all}
+use Rattle.records.proofs.read.Reading.{Reading}
 use Rattle.records.proofs.read.number_at.Given as goal
 
 abbrev pub invariant-loop-left : goal.invariant-loop-left

@@ -1,10 +1,7 @@
 -- What the loop leaves to store, put into the tail as it is now, makes the whole number's bytes.
-use Prim.Native.Nat.{ℕ, ◌+◌, ◌-◌}
-use mathlib.Core.Path.{ap}
-use native.Mathlib.Omega.{arith}
-use borrow.Author.Rules.{rules}
+use Prim.Native.Nat.{◌+◌, ◌-◌}
 use Rattle.specification.specs.Bytes.{bytes}
-use Rattle.records.proofs.write.Laws.{Left, left_all, byte_less, byte_none}
+use Rattle.records.proofs.write.Laws.{Left}
 use Rattle.records.proofs.write.put_number.Given as goal
 
 abbrev pub invariant-loop-i : goal.invariant-loop-i

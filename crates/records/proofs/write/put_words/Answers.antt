@@ -1,11 +1,7 @@
 -- What the loop leaves to store, put into the tail as it is now, makes the words of all the numbers.
-use Prim.Native.Nat.{◌+◌, ◌*◌, ◌-◌}
 use mathlib.Core.Path.{refl}
 use native.Mathlib.Omega.{arith}
-use lib.ListN.{length, drop}
-use borrow.Author.Rules.{rules}
-use Rattle.specification.specs.Bytes.{words}
-use Rattle.records.proofs.write.Laws.{Left, left_all, word_less, word_none}
+use Rattle.records.proofs.write.Laws.{left_all, word_less, word_none}
 use Rattle.records.proofs.write.put_words.Goals as goal
 
 pub loop-i-init : goal.loop-i-init

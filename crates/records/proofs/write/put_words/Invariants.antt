@@ -1,11 +1,8 @@
 -- What the loop leaves to store, put into the tail as it is now, makes the words of all the numbers.
 use Prim.Native.Nat.{◌+◌, ◌*◌, ◌-◌}
-use mathlib.Core.Path.{refl}
-use native.Mathlib.Omega.{arith}
 use lib.ListN.{length, drop}
-use borrow.Author.Rules.{rules}
 use Rattle.specification.specs.Bytes.{words}
-use Rattle.records.proofs.write.Laws.{Left, left_all, word_less, word_none}
+use Rattle.records.proofs.write.Laws.{Left}
 use Rattle.records.proofs.write.put_words.Given as goal
 
 abbrev pub invariant-loop-i : goal.invariant-loop-i

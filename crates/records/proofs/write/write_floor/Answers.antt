@@ -1,6 +1,5 @@
 -- The three stores follow one another, so they are one store of the whole record.
 use mathlib.Core.Path.{refl}
-use borrow.Author.Rules.{rules}
 use Rattle.specification.specs.Bytes.{bytes, encode, floor_answer}
 use Rattle.records.specs.WrittenLaws.{written}
 use Rattle.records.proofs.write.write_floor.Goals as goal

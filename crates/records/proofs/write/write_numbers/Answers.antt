@@ -1,6 +1,5 @@
 -- The three stores follow one another, so they are one store of the whole record; it holds two bytes for each number.
 use native.Mathlib.Omega.{arith}
-use borrow.Author.Rules.{rules}
 use Rattle.specification.specs.Bytes.{bytes, encode}
 use Rattle.records.specs.Lengths.{words_length}
 use Rattle.records.specs.WrittenLaws.{written}

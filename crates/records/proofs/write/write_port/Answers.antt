@@ -1,6 +1,5 @@
 -- The seven stores follow one another, so they are one store of the whole record.
 use mathlib.Core.Path.{refl}
-use borrow.Author.Rules.{rules}
 use Rattle.specification.specs.Bytes.{bytes, encode, port_answer}
 use Rattle.records.specs.WrittenLaws.{written}
 use Rattle.records.proofs.write.write_port.Goals as goal

@@ -3,7 +3,6 @@ use native.Mathlib.Omega.{arith}
 use lib.ListN.{length-take, length-drop}
 use Rattle.records.specs.WrittenLaws.{written_append}
 use Rattle.results.proofs.blocked.Short.{block_short, limit_short}
-use borrow.Author.Rules.{rules}
 use Rattle.results.proofs.blocked.write_blocked.Goals as goal
 
 pub slice_bounds-write_connections-count : goal.slice_bounds-write_connections-count
@@ -15,7 +14,10 @@ slice_bounds-write_connections-start c =
 
 pub write_connections-requires : goal.write_connections-requires
 write_connections-requires c =
-    (c.requires.named_block.block, simp (length-take, length-drop) (omega (arith, limit_short c.requires.named_block c.write_limit-at.ensures)))
+    record {
+      named_cycle = c.requires.named_block.block;
+      in_bounds = simp (length-take, length-drop) (omega (arith, limit_short c.requires.named_block c.write_limit-at.ensures));
+    }
 
 pub overflow_add-result : goal.overflow_add-result
 overflow_add-result c =

@@ -1,9 +1,6 @@
 -- The loop names the connections of the cycle from the front.
 use Prim.Native.Nat.{◌-◌}
-use native.Mathlib.Omega.{arith}
-use lib.ListN.{length-take}
-use borrow.Author.Rules.{rules}
-use Rattle.results.proofs.blocked.Named.{Named, step_named, named_none, named_more, named_all}
+use Rattle.results.proofs.blocked.Named.{Named}
 use Rattle.results.proofs.blocked.write_connections.Given as goal
 
 abbrev pub invariant-loop-i : goal.invariant-loop-i

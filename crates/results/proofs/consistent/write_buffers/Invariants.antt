@@ -2,11 +2,7 @@
 use Prim.Native.Nat.{◌-◌}
 use lib.ListN.{length}
 use Rattle.table.specs.Slices.{links_of, table_of}
-use mathlib.Core.Logic.{⊎_elim}
-use native.Mathlib.Omega.{arith}
-use Rattle.results.specs.Sizes.{buffer_numbers}
-use Rattle.results.proofs.consistent.Buffers.{BuffersWritten, buffers_none, buffers_on, buffers_off, buffers_all}
-use borrow.Author.Rules.{rules}
+use Rattle.results.proofs.consistent.Buffers.{BuffersWritten}
 use Rattle.results.proofs.consistent.write_buffers.Given as goal
 
 abbrev pub invariant-loop-k : goal.invariant-loop-k

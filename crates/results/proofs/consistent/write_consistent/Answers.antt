@@ -1,7 +1,6 @@
 -- The records of the buffers stand right behind those of the ports.
 use native.Mathlib.Omega.{arith}
 use lib.ListN.{length-take, length-drop}
-use borrow.Author.Rules.{rules}
 use Rattle.table.specs.Slices.{table_of}
 use Rattle.specification.specs.Table.{link_count}
 use Rattle.demands.specs.Room.{port_records_lem, buffer_records_lem}
@@ -17,7 +16,8 @@ slice_bounds-write_buffers-start c = let place = rw port_records_lem at c.write_
 
 pub write_buffers-requires : goal.write_buffers-requires
 write_buffers-requires c =
-    (c.requires.table_numbers, let place = rw port_records_lem at c.write_ports-at.ensures.counted in simp (length-take, length-drop) (omega arith))
+    let place = rw port_records_lem at c.write_ports-at.ensures.counted in
+    record { table_numbers = c.requires.table_numbers; links_in_bounds = simp (length-take, length-drop) (omega arith) }
 
 pub overflow_add-result : goal.overflow_add-result
 overflow_add-result c =

@@ -1,10 +1,8 @@
 -- Each turn of the loop writes the record of one port more behind the others.
 use Prim.Native.Nat.{◌-◌}
 use Rattle.table.specs.Slices.{table_of}
-use native.Mathlib.Omega.{arith}
-use borrow.Author.Rules.{rules}
 use Rattle.specification.specs.Table.{port_count}
-use Rattle.results.proofs.consistent.Ports.{PortsWritten, ports_none, ports_on, ports_all}
+use Rattle.results.proofs.consistent.Ports.{PortsWritten}
 use Rattle.results.proofs.consistent.write_ports.Given as goal
 
 abbrev pub invariant-loop-p : goal.invariant-loop-p

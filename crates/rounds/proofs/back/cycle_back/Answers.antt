@@ -2,7 +2,7 @@
 use borrow.Author.Rules.{rules}
 use Rattle.rounds.proofs.back.CourseEnd.{course_found, course_over}
 use Rattle.rounds.proofs.back.Step.{step_low, step_asks, step_back}
-use Rattle.rounds.proofs.back.Course.{Course, course_on, port_low, course_first}
+use Rattle.rounds.proofs.back.Course.{course_on, port_low, course_first}
 use native.Mathlib.Omega.{arith}
 use Rattle.rounds.proofs.back.cycle_back.Goals as goal
 

@@ -1,9 +1,5 @@
 -- `period::back::cycle_back` meets its contract. The invariant: the steps from r on are a trail through ports that are all marked. The measure is r.
-use borrow.Author.Rules.{rules}
-use Rattle.rounds.proofs.back.CourseEnd.{course_found, course_over}
-use Rattle.rounds.proofs.back.Step.{step_low, step_asks, step_back}
-use Rattle.rounds.proofs.back.Course.{Course, course_on, port_low, course_first}
-use native.Mathlib.Omega.{arith}
+use Rattle.rounds.proofs.back.Course.{Course}
 use Rattle.rounds.proofs.back.cycle_back.Given as goal
 
 abbrev pub invariant-loop-r : goal.invariant-loop-r

@@ -1,11 +1,8 @@
 -- `period::back::tight` meets its contract. The invariant: an edge from k on is tight. The measure is how many edges are left.
-use mathlib.Core.Logic.{⊎_elim}
-use borrow.Author.Rules.{rules}
-use Rattle.rounds.proofs.back.Ahead.{Ahead, ahead_first, ahead_range, ahead_other, ahead_loose}
-use Rattle.rounds.specs.Costs.{count}
+use Rattle.rounds.proofs.back.Ahead.{ahead_first, ahead_range, ahead_other, ahead_loose}
 use native.Mathlib.Omega.{arith}
-use Prim.Native.Nat.{◌-◌}
 use Rattle.rounds.proofs.back.tight.Goals as goal
+use Rattle.rounds.proofs.back.tight.Goals.{then-costs-at+else-rows-below, else-costs-at}
 
 pub loop-from-init : goal.loop-from-init
 loop-from-init c = ahead_first c.requires
@@ -29,4 +26,7 @@ overflow_add-start-then-costs-at c =
     let f = ahead_range c.loop-from.invariant c.requires in omega arith
 
 pub loop-from-preserved : goal.loop-from-preserved
-loop-from-preserved c = ⊎_elim (λ w. ahead_loose c.loop-from.invariant w.5.left) (λ w. ahead_other c.loop-from.invariant w.left) c.if-costs-at.branch
+loop-from-preserved c = elim c.if-costs-at.branch [
+  | then-costs-at+else-rows-below w ↦ ahead_loose c.loop-from.invariant w.if-rows-below.false
+  | else-costs-at w ↦ ahead_other c.loop-from.invariant w.if-costs-at.false
+]

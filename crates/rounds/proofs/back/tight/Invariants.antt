@@ -1,9 +1,6 @@
 -- `period::back::tight` meets its contract. The invariant: an edge from k on is tight. The measure is how many edges are left.
-use mathlib.Core.Logic.{⊎_elim}
-use borrow.Author.Rules.{rules}
-use Rattle.rounds.proofs.back.Ahead.{Ahead, ahead_first, ahead_range, ahead_other, ahead_loose}
+use Rattle.rounds.proofs.back.Ahead.{Ahead}
 use Rattle.rounds.specs.Costs.{count}
-use native.Mathlib.Omega.{arith}
 use Prim.Native.Nat.{◌-◌}
 use Rattle.rounds.proofs.back.tight.Given as goal
 

@@ -1,6 +1,5 @@
 -- Row 0 is the array of zeros.
 use native.Mathlib.Omega.{arith}
-use borrow.Author.Rules.{rules}
 use lib.ListN.{length-take}
 use Rattle.rounds.proofs.starts.clear.Goals as goal
 

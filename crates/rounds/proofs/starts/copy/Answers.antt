@@ -1,8 +1,6 @@
 -- The loop copies from the front.
-use Prim.Native.Nat.{◌-◌}
 use borrow.Author.Rules.{rules}
-use lib.ListN.{length}
-use Rattle.rounds.proofs.starts.Copied.{Copied, copied_none, copied_more, copied_all}
+use Rattle.rounds.proofs.starts.Copied.{copied_none, copied_more, copied_all}
 use Rattle.rounds.proofs.starts.copy.Goals as goal
 
 pub loop-i-init : goal.loop-i-init

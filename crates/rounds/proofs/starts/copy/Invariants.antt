@@ -1,8 +1,7 @@
 -- The loop copies from the front.
 use Prim.Native.Nat.{◌-◌}
-use borrow.Author.Rules.{rules}
 use lib.ListN.{length}
-use Rattle.rounds.proofs.starts.Copied.{Copied, copied_none, copied_more, copied_all}
+use Rattle.rounds.proofs.starts.Copied.{Copied}
 use Rattle.rounds.proofs.starts.copy.Given as goal
 
 abbrev pub invariant-loop-i : goal.invariant-loop-i

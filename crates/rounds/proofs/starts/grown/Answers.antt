@@ -1,7 +1,5 @@
 -- None of the ports passed grew. The measure is how many are left.
-use Prim.Native.Nat.{◌-◌}
-use Rattle.rounds.proofs.starts.Flat.{Flat, flat_none, flat_on, flat_grown, flat_all}
-use borrow.Author.Rules.{rules}
+use Rattle.rounds.proofs.starts.Flat.{flat_none, flat_on, flat_grown, flat_all}
 use Rattle.rounds.proofs.starts.grown.Goals as goal
 
 pub loop-p-init : goal.loop-p-init

@@ -1,7 +1,6 @@
 -- The edge asks for no more than its receiver has, or raises it.
 use native.Mathlib.Omega.{arith}
 use Rattle.rounds.proofs.starts.Relaxed.{raise_same, raise_more}
-use borrow.Author.Rules.{rules}
 use Rattle.rounds.proofs.starts.relax.Goals as goal
 
 pub returns-then-reach-new : goal.returns-then-reach-new

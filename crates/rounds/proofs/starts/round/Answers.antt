@@ -1,6 +1,5 @@
 -- Each turn of the loop relaxes one edge more.
-use Prim.Native.Nat.{◌-◌}
-use Rattle.rounds.proofs.starts.Partly.{Partly, partly_none, partly_ready, partly_on, partly_all}
+use Rattle.rounds.proofs.starts.Partly.{partly_none, partly_ready, partly_on, partly_all}
 use borrow.Author.Rules.{rules}
 use Rattle.rounds.proofs.starts.round.Goals as goal
 
@@ -14,7 +13,7 @@ pub loop-k-preserved : goal.loop-k-preserved
 loop-k-preserved c = search (partly_on, rules)
 
 pub grown-requires : goal.grown-requires
-grown-requires c = (c.requires.can_round.ports, c.loop-k.invariant.long)
+grown-requires c = record { old_len = c.requires.can_round.ports; new_len = c.loop-k.invariant.long }
 
 pub returns : goal.returns
 returns c = partly_all c.loop-k.invariant c.loop-k-test.false c.grown.ensures

@@ -1,7 +1,6 @@
 -- Each turn of the loop relaxes one edge more.
 use Prim.Native.Nat.{◌-◌}
-use Rattle.rounds.proofs.starts.Partly.{Partly, partly_none, partly_ready, partly_on, partly_all}
-use borrow.Author.Rules.{rules}
+use Rattle.rounds.proofs.starts.Partly.{Partly}
 use Rattle.rounds.proofs.starts.round.Given as goal
 
 abbrev pub invariant-loop-k : goal.invariant-loop-k

@@ -2,7 +2,6 @@
 use Rattle.text.specs.Lines.{buffer_line}
 use Rattle.text.specs.Printed.{buffer_at}
 use Rattle.text.specs.Put.{◌⨾◌}
-use borrow.Author.Rules.{rules}
 use Rattle.text.proofs.lines.put_buffer.Goals as goal
 
 pub returns : goal.returns

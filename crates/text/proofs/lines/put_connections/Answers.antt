@@ -1,11 +1,9 @@
 -- By the connections that are put.
 use native.Mathlib.Omega.{arith}
-use Prim.Native.Nat.{◌-◌}
 use Rattle.text.specs.Lines.{connection_text}
 use Rattle.text.specs.Printed.{connection_at}
 use Rattle.text.specs.Sizes.{connection_size}
-use Rattle.text.proofs.lines.Items.{Listed, listed_none, listed_more, listed_end, listed_all}
-use borrow.Author.Rules.{rules}
+use Rattle.text.proofs.lines.Items.{listed_none, listed_more, listed_end, listed_all}
 use Rattle.text.proofs.lines.put_connections.Goals as goal
 
 pub loop-i-init : goal.loop-i-init
@@ -20,4 +18,7 @@ loop-i-preserved c =
     listed_more c.loop-i.invariant c.loop-i-test.true (rw (← c.number_at.ensures.0) c.put_field-end.ensures.put)
 
 pub returns : goal.returns
-returns c = (listed_all c.loop-i.invariant c.loop-i-test.false, omega (arith, listed_end c.loop-i.invariant (connection_size _)))
+returns c = record {
+  put = listed_all c.loop-i.invariant c.loop-i-test.false;
+  within = omega (arith, listed_end c.loop-i.invariant (connection_size _));
+}

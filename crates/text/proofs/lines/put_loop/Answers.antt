@@ -2,7 +2,6 @@
 use Rattle.text.specs.Lines.{items_line}
 use Rattle.text.specs.Printed.{loop_at}
 use Rattle.text.specs.Put.{◌⨾◌}
-use borrow.Author.Rules.{rules}
 use Rattle.text.proofs.lines.put_loop.Goals as goal
 
 pub returns : goal.returns

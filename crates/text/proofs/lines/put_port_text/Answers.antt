@@ -1,7 +1,6 @@
 -- The fields, one behind another.
 use Rattle.text.specs.Lines.{port_text}
 use Rattle.text.specs.Put.{◌⨾◌}
-use borrow.Author.Rules.{rules}
 use Rattle.text.proofs.lines.put_port_text.Goals as goal
 
 pub returns : goal.returns

@@ -1,12 +1,11 @@
 -- By the direction.
 use Rattle.text.specs.Lines.{sign_word}
-use borrow.Author.Rules.{rules}
 use Rattle.text.proofs.lines.put_sign.Goals as goal
 
-pub returns-then-against : goal.returns-then-against
+pub returns-then-against-clause-put : goal.returns-then-against-clause-put
 unfolding sign_word
-returns-then-against c = (rw c.if-against.true c.put_word.ensures, search rules)
+returns-then-against-clause-put c = rw c.if-against.true c.put_word.ensures
 
-pub returns : goal.returns
+pub returns-clause-put : goal.returns-clause-put
 unfolding sign_word
-returns c = (rw c.if-against.false c.put_word-2.ensures, search rules)
+returns-clause-put c = rw c.if-against.false c.put_word-2.ensures

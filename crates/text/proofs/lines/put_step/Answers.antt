@@ -2,7 +2,6 @@
 use Rattle.text.specs.Lines.{step_text}
 use Rattle.text.specs.Printed.{step_at}
 use Rattle.text.specs.Put.{◌⨾◌}
-use borrow.Author.Rules.{rules}
 use Rattle.text.proofs.lines.put_step.Goals as goal
 
 pub returns : goal.returns

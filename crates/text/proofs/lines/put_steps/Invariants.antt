@@ -1,10 +1,7 @@
 -- By the steps that are put.
-use native.Mathlib.Omega.{arith}
 use Prim.Native.Nat.{◌-◌}
 use Rattle.text.specs.Printed.{step_at}
-use Rattle.text.specs.Sizes.{step_size}
-use Rattle.text.proofs.lines.Items.{Listed, listed_none, listed_more, listed_end, listed_all}
-use borrow.Author.Rules.{rules}
+use Rattle.text.proofs.lines.Items.{Listed}
 use Rattle.text.proofs.lines.put_steps.Given as goal
 
 abbrev pub invariant-loop-i : goal.invariant-loop-i

@@ -1,10 +1,9 @@
 -- By the tests.
 use native.Mathlib.Omega.{arith}
 use mathlib.Core.Path.{sym, ◌∙◌}
-use borrow.Author.Tests.{not-true, not-false, lt-ltb, le-ltb, le-leb, lt-leb, eq-eqb, ne_eqb}
+use borrow.Author.Tests.{lt-ltb, le-ltb, le-leb, lt-leb, eq-eqb, ne_eqb}
 use Rattle.text.specs.Places.{line_port}
 use Rattle.text.specs.Printed.{has_period, is_record}
-use borrow.Author.Rules.{rules}
 use Rattle.text.proofs.print.is_record.Goals as goal
 
 pub returns-then-at-s : goal.returns-then-at-s
@@ -23,14 +22,14 @@ returns-then-not-has_line c = rw (
   le-leb _ _ c.if-at-size.false,
   ← c.number_at-kind.ensures.0,
   ← c.has_line.ensures,
-  not-true c.has_line.result c.if-not-has_line.true,
+  c.if-not-has_line.true,
 )
 
 pub number_at-requires : goal.number_at-requires
 number_at-requires c =
-    let line = sym c.has_line.ensures ∙ not-false c.has_line.result c.if-not-has_line.false in
+    let line = sym c.has_line.ensures ∙ c.if-not-has_line.false in
     let size = line_port c.number_at-kind.result c.number_at-size.result line c.if-kind-eq16.true in
-    (omega arith, omega arith)
+    record { n_in_bounds = omega arith; n_bound = omega arith }
 
 pub returns-then-kind-eq16 : goal.returns-then-kind-eq16
 unfolding is_record has_period
@@ -40,7 +39,7 @@ returns-then-kind-eq16 c = rw (
   le-leb _ _ c.if-at-size.false,
   ← c.number_at-kind.ensures.0,
   ← c.has_line.ensures,
-  not-false c.has_line.result c.if-not-has_line.false,
+  c.if-not-has_line.false,
   eq-eqb _ _ c.if-kind-eq16.true,
   ← c.number_at.ensures.0,
 )
@@ -53,6 +52,6 @@ returns c = rw (
   le-leb _ _ c.if-at-size.false,
   ← c.number_at-kind.ensures.0,
   ← c.has_line.ensures,
-  not-false c.has_line.result c.if-not-has_line.false,
+  c.if-not-has_line.false,
   ne_eqb _ _ c.if-kind-eq16.false,
 )

@@ -5,7 +5,6 @@ use Rattle.text.specs.Printed.{printed}
 use Rattle.text.specs.Sizes.{printed_size}
 use Rattle.records.specs.WrittenLaws.{written_within}
 use Rattle.text.specs.Put.{◌⨾◌, written}
-use borrow.Author.Rules.{rules}
 use Rattle.text.proofs.print.print.Goals as goal
 
 pub returns : goal.returns
@@ -15,4 +14,4 @@ returns c =
     let room = (printed_size given.number given.place given.records.now).within in
     let line = c.put_field-end.ensures.put ⨾ c.put_place-end.ensures.put ⨾ c.put_word-end.ensures in
     let w = written (line ⨾ c.put_records.ensures) (omega arith) in
-    (w, written_within w)
+    record { written = w; upper_bound = written_within w }

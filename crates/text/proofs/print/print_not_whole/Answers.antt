@@ -1,12 +1,11 @@
 -- By whether a read failed.
-use borrow.Author.Rules.{rules}
 use Rattle.text.specs.Lines.{not_whole_line}
 use Rattle.text.proofs.print.print_not_whole.Goals as goal
 
-pub returns-then-failed : goal.returns-then-failed
+pub returns-then-failed-clause-written : goal.returns-then-failed-clause-written
 unfolding not_whole_line
-returns-then-failed c = let put = c.print_line.ensures in (rw c.if-failed.true put.0, put.1)
+returns-then-failed-clause-written c = rw c.if-failed.true c.print_line.ensures.written
 
-pub returns : goal.returns
+pub returns-clause-written : goal.returns-clause-written
 unfolding not_whole_line
-returns c = let put = c.print_line-2.ensures in (rw c.if-failed.false put.0, put.1)
+returns-clause-written c = rw c.if-failed.false c.print_line-2.ensures.written

@@ -4,14 +4,17 @@ use native.Mathlib.Omega.{arith}
 use borrow.Author.Tests.{eq-eqb, ne_eqb}
 use Rattle.text.specs.Printed.{record_line}
 use Rattle.text.specs.Places.{size_port, over_port, size_buffer, size_loop, size_cycle, size_floor}
-use borrow.Author.Rules.{rules}
 use Rattle.text.proofs.print.put_record.Goals as goal
 
 pub put_port-requires : goal.put_port-requires
 put_port-requires c =
     let lies = c.requires.lies in
     let port = sym c.number_at-kind.ensures.0 ∙ c.if-kind-eq16.true in
-    (omega (arith, size_port lies port, lies.ends), (over_port lies port, omega (arith, size_port lies port)))
+    record {
+      at_in_bounds = omega (arith, size_port lies port, lies.ends);
+      nonzero = over_port lies port;
+      room = omega (arith, size_port lies port);
+    }
 
 pub returns-then-kind-eq16 : goal.returns-then-kind-eq16
 unfolding record_line
@@ -63,10 +66,10 @@ pub put_floor-requires : goal.put_floor-requires
 put_floor-requires c =
     let kind = c.number_at-kind.ensures.0 in
     let not_16 = rw kind at (ne_eqb _ _ c.if-kind-eq16.false) in
-    let not-17 = rw kind at (ne_eqb _ _ c.if-kind-eq17.false) in
-    let not-18 = rw kind at (ne_eqb _ _ c.if-kind-eq18.false) in
-    let not-19 = rw kind at (ne_eqb _ _ c.if-kind-eq19.false) in
-    omega (arith, size_floor c.requires.lies not_16 not-17 not-18 not-19)
+    let not_17 = rw kind at (ne_eqb _ _ c.if-kind-eq17.false) in
+    let not_18 = rw kind at (ne_eqb _ _ c.if-kind-eq18.false) in
+    let not_19 = rw kind at (ne_eqb _ _ c.if-kind-eq19.false) in
+    omega (arith, size_floor c.requires.lies not_16 not_17 not_18 not_19)
 
 pub returns : goal.returns
 unfolding record_line

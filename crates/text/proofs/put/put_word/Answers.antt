@@ -1,9 +1,7 @@
 -- By the bytes that are copied.
-use Prim.Native.Nat.{◌+◌, ◌-◌}
 use native.Mathlib.Omega.{arith}
-use lib.ListN.{length, take, length-take}
-use borrow.Author.Rules.{rules}
-use Rattle.text.specs.Put.{Put, put_nothing}
+use lib.ListN.{length-take}
+use Rattle.text.specs.Put.{put_nothing}
 use Rattle.text.proofs.put.Copying.{copied_more, copied_all}
 use Rattle.text.proofs.put.put_word.Goals as goal
 

@@ -1,9 +1,6 @@
 -- The labels stay sound, and each pass that changes one lowers their sum, the measure.
 use Rattle.ways.proofs.components.Lowest.{lowest_all}
 use Rattle.ways.proofs.components.Owned.{own_sound}
-use Rattle.table.specs.Slices.{table_of}
-use Rattle.ways.specs.Passes.{Sound}
-use Rattle.numbers.specs.Lists.{sum}
 use borrow.Author.Rules.{rules}
 use Rattle.ways.proofs.components.components.Goals as goal
 

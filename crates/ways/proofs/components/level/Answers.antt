@@ -1,7 +1,6 @@
 -- The smaller label goes to the other port, or the two are equal.
 use Rattle.ways.proofs.components.Smaller.{level_first, level_second, level_none}
 use native.Mathlib.Omega.{arith}
-use borrow.Author.Rules.{rules}
 use Rattle.ways.proofs.components.level.Goals as goal
 
 pub returns-then-a-b : goal.returns-then-a-b

@@ -1,7 +1,5 @@
 -- Each turn of the loop labels one number more. The measure is how many are left.
-use Rattle.ways.proofs.components.Owned.{own_none, own_on, own_all}
 use Rattle.ways.specs.Passes.{Own}
-use borrow.Author.Rules.{rules}
 use Prim.Native.Nat.{◌-◌}
 use Rattle.ways.proofs.components.own_labels.Given as goal
 

@@ -1,10 +1,6 @@
 -- Each turn of the loop passes one link more. The measure is how many are left.
-use native.Mathlib.Omega.{arith}
 use Rattle.table.specs.Slices.{links_of, table_of}
-use Rattle.ways.proofs.components.Passing.{passed_none, passed_both, passed_on, passed_off, passed_all}
 use Rattle.ways.specs.Passes.{Passed}
-use borrow.Author.Rules.{rules}
-use mathlib.Core.Logic.{⊎_elim}
 use Prim.Native.Nat.{◌-◌}
 use lib.ListN.{length}
 use Rattle.ways.proofs.components.pass.Given as goal
