@@ -80,6 +80,7 @@ pub struct Lengths {
 }
 
 // The line of a fault, else of the first file that was not read whole; none where all were.
+#[tactic(auto, unfolding(crate::specs::Files::line_of, text::specs::Printed::printed, text::specs::Printed::record_lines))]
 pub fn print_line(number: u64, place: usize, whole: bool, failed: bool, text: &mut [u8]) -> usize
     requires { line_room ≤ length text.old }
     ensures { Written (line_of number place whole failed) text.old text.new result }

@@ -1,6 +1,6 @@
 -- Small tables with the number and the place that each gives: every rule from 2 to 12 at its boundaries. The program `table_cases` runs the
 -- long ones.
-use Prim.Native.Nat.{ℕ, ◌+◌, ◌-◌}
+use Prim.Native.Nat.{ℕ, ◌-◌}
 use mathlib.Core.Path.{◌≡◌, refl}
 use mathlib.Core.List.{List, [], ◌∷◌, ◌++◌, map}
 use Rattle.specification.specs.Bytes.{bytes, number_at, encode}

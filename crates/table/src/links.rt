@@ -6,7 +6,7 @@ ghost use Rattle.specification.specs.Table.{no_link, is_buffer};
 ghost use Rattle.table.specs.WellFormed.{LinkFits};
 ghost use Rattle.table.specs.Slices.{link_numbers, link_in, links_of, LinkFields, SameLink};
 
-use crate::{numbers, store};
+use crate::{four_bytes, store};
 use specification::{Events, Link, Ticks};
 
 pub const WIDTH: usize = 10;
@@ -31,12 +31,18 @@ fn read(links: &[u32], k: usize) -> Link
 {
     let at = WIDTH * k;
     Link {
-        from: numbers::wide(links[at]) as usize,
-        to: numbers::wide(links[at + 1]) as usize,
-        num: numbers::wide(links[at + 2]),
-        den: numbers::wide(links[at + 3]),
-        ticks: Ticks(numbers::wide(links[at + 4]), numbers::wide(links[at + 5])),
-        events: Events(numbers::wide(links[at + 6]), numbers::wide(links[at + 7])),
+        from: four_bytes::wide(links[at]) as usize,
+        to: four_bytes::wide(links[at + 1]) as usize,
+        num: four_bytes::wide(links[at + 2]),
+        den: four_bytes::wide(links[at + 3]),
+        ticks: Ticks(
+            four_bytes::wide(links[at + 4]),
+            four_bytes::wide(links[at + 5]),
+        ),
+        events: Events(
+            four_bytes::wide(links[at + 6]),
+            four_bytes::wide(links[at + 7]),
+        ),
         over: links[at + 8],
         kind: links[at + 9],
     }

@@ -5,7 +5,7 @@ ghost use Rattle.specification.specs.Table.{no_port};
 ghost use Rattle.table.specs.WellFormed.{PortFits};
 ghost use Rattle.table.specs.Slices.{port_numbers, port_in, ports_of, PortFields};
 
-use crate::{numbers, store};
+use crate::{four_bytes, store};
 use specification::Port;
 
 pub const WIDTH: usize = 2;
@@ -23,8 +23,8 @@ fn read(ports: &[u32], p: usize) -> Port
 {
     let at = WIDTH * p;
     Port {
-        num: numbers::wide(ports[at]),
-        den: numbers::wide(ports[at + 1]),
+        num: four_bytes::wide(ports[at]),
+        den: four_bytes::wide(ports[at + 1]),
     }
 }
 

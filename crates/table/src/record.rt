@@ -3,7 +3,7 @@ ghost use Rattle.std.specs.Prelude.{◌≡◌, ◌+◌, ◌≤◌, ◌<◌, leng
 ghost use Rattle.specification.specs.Reading.{length_faulty, part_faulty, parts_faulty, rate_faulty, ends_faulty, ticks_at, events_at, amount_faulty, events_faulty, delays_faulty, port_of, link_of, port_at, link_at, kind_at, record_at};
 ghost use Rattle.table.specs.Kinds.{is_of, kind_fault};
 
-use crate::numbers;
+use crate::four_bytes;
 use records::read::number_at;
 use specification::{Before, Events, Link, Port, Read, Ticks, limits};
 
@@ -69,7 +69,7 @@ fn ticks_at(s: &[u8], at: usize) -> Ticks
     ensures { result ≡ ticks_at s.now at }
 {
     let v = number_at(s, at, 4);
-    Ticks(numbers::forward_of(v), numbers::back_of(v))
+    Ticks(four_bytes::forward_of(v), four_bytes::back_of(v))
 }
 
 // An amount with a sign is above most, or below its negation.
@@ -109,7 +109,7 @@ fn events_at(s: &[u8], at: usize) -> Events
     ensures { result ≡ events_at s.now at }
 {
     let v = number_at(s, at, 4);
-    Events(numbers::forward_of(v), numbers::back_of(v))
+    Events(four_bytes::forward_of(v), four_bytes::back_of(v))
 }
 
 fn port_of(s: &[u8], at: usize) -> Port

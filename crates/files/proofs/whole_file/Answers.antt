@@ -1,6 +1,5 @@
 -- By whether the files before it were read whole.
 use Rattle.files.specs.Files.{whole_file}
-use borrow.Author.Rules.{rules}
 use Rattle.files.proofs.whole_file.Goals as goal
 
 pub returns-then-before : goal.returns-then-before

@@ -5,7 +5,6 @@ use native.Mathlib.Omega.{arith}
 use Rattle.encoding.specs.ReadBack.{writable_formed}
 use Rattle.analysis.specs.AnalysedLaws.{analysed_short}
 use Rattle.previews.proofs.Outcomes.{analysed_empty, analysed_table}
-use borrow.Author.Rules.{rules}
 use Rattle.previews.proofs.analyse_table.Goals as goal
 
 pub returns-then-answer-lt-LEAST_ROOM : goal.returns-then-answer-lt-LEAST_ROOM

@@ -1,7 +1,6 @@
 -- The inputs one behind the other.
 use mathlib.Core.Path.{sym}
 use Rattle.previews.proofs.InputBytes.{past_first, past_second, within_last}
-use borrow.Author.Rules.{rules}
 use Rattle.previews.proofs.bytes_within.Goals as goal
 
 pub returns-then-most-first : goal.returns-then-most-first

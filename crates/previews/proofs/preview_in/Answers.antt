@@ -2,7 +2,6 @@
 use native.Mathlib.Omega.{arith}
 use lib.ListN.{length-take}
 use Rattle.previews.proofs.Outcomes.{preview_refused, read_writable, preview_analysed}
-use borrow.Author.Rules.{rules}
 use Rattle.previews.proofs.preview_in.Goals as goal
 
 pub returns-then-read-ne0 : goal.returns-then-read-ne0

@@ -62,10 +62,9 @@ some_left : (n size at : ℕ) → size ≤ n + at → at < size → n ≡ suc (n
 some_left n size at h k = omega arith
 
 module _ {s ports₀ links₀ : List ℕ} {by : ℕ} {b₀ : Before} {ports links : List ℕ} {b : Before} {at : ℕ} where
-  pub turn : {r r' : Read} → Going s ports₀ links₀ by b₀ ports links b at → r ≡ record_at s at b → r ≡ r'
-      → Turn s ports₀ links₀ by b₀ ports links b at r'
+  pub turn : {r : Read} → Going s ports₀ links₀ by b₀ ports links b at → r ≡ record_at s at b → Turn s ports₀ links₀ by b₀ ports links b at r
   unfolding read_from
-  turn g q e = rw (← e, q) (record { going = g; told = accepted s at b; then = g.on })
+  turn g e = rw e (record { going = g; told = accepted s at b; then = g.on })
 
   -- the slices have room for the record, and what is stored is within the limits
   pub port_fits : {p : Port} {next : ℕ} → Turn s ports₀ links₀ by b₀ ports links b at (PortRecord p next)

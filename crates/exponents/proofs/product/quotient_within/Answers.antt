@@ -1,12 +1,8 @@
 -- The product of the powers passed, up to the bound.
-use Prim.Native.Nat.{◌-◌}
-use mathlib.Core.List.{[]}
 use native.Mathlib.Omega.{arith}
 use borrow.Author.Tests.{leb-false}
-use lib.ListN.{get_or}
 use Rattle.exponents.specs.Primes.{prime_entry}
-use Rattle.exponents.specs.Row.{excess}
-use Rattle.exponents.proofs.product.Bounded.{Producing, producing_none, producing_factors, producing_on, producing_all, producing_past, producing_rest}
+use Rattle.exponents.proofs.product.Bounded.{producing_none, producing_factors, producing_on, producing_all, producing_past, producing_rest}
 use borrow.Author.Rules.{rules}
 use Rattle.exponents.proofs.product.quotient_within.Goals as goal
 
@@ -18,11 +14,11 @@ bounds-all-i c = search (prime_entry, rules)
 
 pub returns-then-most-prime : goal.returns-then-most-prime
 returns-then-most-prime c =
-    producing_rest c.loop-i.invariant c.loop-i-test.true c.requires.all_value c.wide-prime.ensures (λ k l h. omega (arith, c.requires.row_at.1.1.place k l h)) c.if-most-prime.true
+    producing_rest c.loop-i.invariant c.loop-i-test.true c.requires.all_value c.wide-prime.ensures {most = c.args.most} (λ k l h. omega (arith, c.requires.same_above.place k l h)) (omega arith)
 
 pub overflow_sub-rows : goal.overflow_sub-rows
 overflow_sub-rows c =
-    omega (arith, c.requires.row_at.1.0.place _ c.loop-i-test.true)
+    omega (arith, c.requires.within.place _ c.loop-i-test.true)
 
 pub times_power-product-requires : goal.times_power-product-requires
 times_power-product-requires c =

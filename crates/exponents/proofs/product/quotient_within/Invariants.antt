@@ -1,13 +1,9 @@
 -- The product of the powers passed, up to the bound.
 use Prim.Native.Nat.{◌-◌}
 use mathlib.Core.List.{[]}
-use native.Mathlib.Omega.{arith}
-use borrow.Author.Tests.{leb-false}
 use lib.ListN.{get_or}
-use Rattle.exponents.specs.Primes.{prime_entry}
 use Rattle.exponents.specs.Row.{excess}
-use Rattle.exponents.proofs.product.Bounded.{Producing, producing_none, producing_factors, producing_on, producing_all, producing_past, producing_rest}
-use borrow.Author.Rules.{rules}
+use Rattle.exponents.proofs.product.Bounded.{Producing}
 use Rattle.exponents.proofs.product.quotient_within.Given as goal
 
 abbrev pub invariant-loop-i : goal.invariant-loop-i

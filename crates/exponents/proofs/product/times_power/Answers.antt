@@ -1,8 +1,6 @@
 -- The product so far times what is left of the power, up to the bound.
-use Rattle.exponents.proofs.product.Bounded.{Powered, powered_none, powered_room, powered_on, powered_all, powered_past}
-use borrow.Author.Tests.{leb-true, leb-false}
-use mathlib.Core.Logic.{⊎_elim}
-use native.Mathlib.Omega.{arith}
+use Rattle.exponents.proofs.product.Bounded.{powered_none, powered_room, powered_on, powered_past}
+use borrow.Author.Tests.{leb-true}
 use borrow.Author.Rules.{rules}
 use Rattle.exponents.proofs.product.times_power.Goals as goal
 
@@ -14,9 +12,6 @@ overflow_mul-product c = record { fits = search (powered_room, leb-true, rules) 
 
 pub loop-left-preserved : goal.loop-left-preserved
 loop-left-preserved c = search (powered_on, leb-true, rules)
-
-pub returns-then-product-le10000-2 : goal.returns-then-product-le10000-2
-returns-then-product-le10000-2 c = ⊎_elim (λ w. absurd (omega (arith, leb-false, w.1.left))) (λ w. search (powered_all, rules)) c.loop-left-test.branch
 
 pub returns-else-product-le10000-2 : goal.returns-else-product-le10000-2
 returns-else-product-le10000-2 c = search (powered_past, rules)

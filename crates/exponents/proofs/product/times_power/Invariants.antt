@@ -1,9 +1,5 @@
 -- The product so far times what is left of the power, up to the bound.
-use Rattle.exponents.proofs.product.Bounded.{Powered, powered_none, powered_room, powered_on, powered_all, powered_past}
-use borrow.Author.Tests.{leb-true, leb-false}
-use mathlib.Core.Logic.{⊎_elim}
-use native.Mathlib.Omega.{arith}
-use borrow.Author.Rules.{rules}
+use Rattle.exponents.proofs.product.Bounded.{Powered}
 use Rattle.exponents.proofs.product.times_power.Given as goal
 
 abbrev pub invariant-loop-left : goal.invariant-loop-left

@@ -1,8 +1,6 @@
 -- The count of the places that differ, among those passed.
-use borrow.Author.Rules.{rules}
-use Rattle.exponents.proofs.row.Equal.{Differing, differing_none, differing_on, differing_off, same_all}
+use Rattle.exponents.proofs.row.Equal.{Differing}
 use Prim.Native.Nat.{◌-◌}
-use mathlib.Core.Logic.{⊎_elim}
 use Rattle.exponents.proofs.row.same.Given as goal
 
 abbrev pub invariant-loop-i : goal.invariant-loop-i

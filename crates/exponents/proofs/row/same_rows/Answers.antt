@@ -1,17 +1,17 @@
 -- The count of the places that differ, among those passed.
-use mathlib.Core.List.{[]}
-use Prim.Native.Nat.{◌-◌}
-use mathlib.Core.Logic.{⊎_elim}
 use borrow.Author.Rules.{rules}
-use lib.ListN.{get_or}
-use Rattle.exponents.proofs.row.Equal.{Differing, differing_none, differing_on, differing_off, same_all}
+use Rattle.exponents.proofs.row.Equal.{differing_none, differing_on, differing_off, same_all}
 use Rattle.exponents.proofs.row.same_rows.Goals as goal
+use Rattle.exponents.proofs.row.same_rows.Goals.{then-rows-p, else-rows-p}
 
 pub loop-i-init : goal.loop-i-init
 loop-i-init c = search (differing_none, rules)
 
 pub loop-i-preserved : goal.loop-i-preserved
-loop-i-preserved c = ⊎_elim (λ w. rw w.1 (search (differing_on, rules))) (λ w. rw w.1 (search (differing_off, rules))) c.if-rows-p.branch
+loop-i-preserved c = elim c.if-rows-p.branch [
+  | then-rows-p w ↦ rw w.unequal-is (search (differing_on, rules))
+  | else-rows-p w ↦ rw w.unequal-is (search (differing_off, rules))
+]
 
 pub returns : goal.returns
 returns c = search (same_all, rules)

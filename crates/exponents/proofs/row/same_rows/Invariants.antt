@@ -1,10 +1,8 @@
 -- The count of the places that differ, among those passed.
 use mathlib.Core.List.{[]}
 use Prim.Native.Nat.{◌-◌}
-use mathlib.Core.Logic.{⊎_elim}
-use borrow.Author.Rules.{rules}
 use lib.ListN.{get_or}
-use Rattle.exponents.proofs.row.Equal.{Differing, differing_none, differing_on, differing_off, same_all}
+use Rattle.exponents.proofs.row.Equal.{Differing}
 use Rattle.exponents.proofs.row.same_rows.Given as goal
 
 abbrev pub invariant-loop-i : goal.invariant-loop-i

@@ -1,6 +1,5 @@
 -- One prime factor a turn, until nothing is left: first those to multiply by, then those to divide by.
-use Rattle.exponents.proofs.row.Factors.{Partly, partly_none, from_two, room_above, room_below, left_falls, multiplied_on, divided_on, scaled_all}
-use borrow.Author.Rules.{rules}
+use Rattle.exponents.proofs.row.Factors.{Partly}
 use Rattle.exponents.proofs.row.scaled.Given as goal
 
 abbrev pub invariant-loop-left : goal.invariant-loop-left

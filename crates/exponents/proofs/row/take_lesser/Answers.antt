@@ -1,9 +1,5 @@
 -- The row at c is combined place by place. The measure is how many places are left.
-use Prim.Native.Nat.{◌-◌}
-use mathlib.Core.List.{[]}
-use lib.ListN.{get_or}
-use Rattle.exponents.proofs.row.Places.{TakingLesser, lesser_none, lesser_on, lesser_all}
-use borrow.Author.Rules.{rules}
+use Rattle.exponents.proofs.row.Places.{lesser_none, lesser_on, lesser_all}
 use Rattle.exponents.proofs.row.take_lesser.Goals as goal
 
 pub loop-i-init : goal.loop-i-init

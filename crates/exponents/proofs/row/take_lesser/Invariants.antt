@@ -2,8 +2,7 @@
 use Prim.Native.Nat.{◌-◌}
 use mathlib.Core.List.{[]}
 use lib.ListN.{get_or}
-use Rattle.exponents.proofs.row.Places.{TakingLesser, lesser_none, lesser_on, lesser_all}
-use borrow.Author.Rules.{rules}
+use Rattle.exponents.proofs.row.Places.{TakingLesser}
 use Rattle.exponents.proofs.row.take_lesser.Given as goal
 
 abbrev pub invariant-loop-i : goal.invariant-loop-i

@@ -8,14 +8,14 @@ loop-left-init c = reading_none _ _ _
 
 pub overflow_mul-v : goal.overflow_mul-v
 overflow_mul-v c =
-    omega (arith, reading_small c.loop-left-test.true c.loop-left.invariant c.requires.n_bound)
+    omega (arith, reading_small (omega arith) c.loop-left.invariant c.requires.n_bound)
 
 pub overflow_add-v : goal.overflow_add-v
 overflow_add-v c =
-    omega (arith, reading_small c.loop-left-test.true c.loop-left.invariant c.requires.n_bound)
+    omega (arith, reading_small (omega arith) c.loop-left.invariant c.requires.n_bound)
 
 pub loop-left-preserved : goal.loop-left-preserved
-loop-left-preserved c = reading_more c.loop-left-test.true c.loop-left.invariant c.wide.ensures.0 c.wide.ensures.1
+loop-left-preserved c = reading_more (omega arith) c.loop-left.invariant c.wide.ensures.0 c.wide.ensures.1
 
 pub returns : goal.returns
-returns c = reading_all c.loop-left-test.false c.loop-left.invariant
+returns c = reading_all (omega arith) c.loop-left.invariant

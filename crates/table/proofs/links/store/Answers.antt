@@ -1,6 +1,5 @@
 -- The casts keep their values, since the link is within the limits.
 use native.Mathlib.Omega.{arith}
-use borrow.Author.Rules.{rules}
 use Rattle.table.proofs.links.store.Goals as goal
 
 pub store_numbers-requires : goal.store_numbers-requires

@@ -1,5 +1,4 @@
 -- A port is its two fields.
-use borrow.Author.Rules.{rules}
 use Rattle.table.proofs.ports.at.Goals as goal
 
 pub returns : goal.returns

@@ -1,10 +1,7 @@
 -- What fills the slices from each place fills them from the start; the bytes left fall.
-use borrow.Author.Rules.{rules}
-use Rattle.table.proofs.reading.Turn.{Going, started, turn, port_fits, link_fits, port_read, link_read, refused, ended}
+use Rattle.table.proofs.reading.Turn.{Going}
 use Prim.Native.Nat.{◌-◌}
 use lib.ListN.{length}
-use mathlib.Core.Path.{refl}
-use native.Mathlib.Omega.{arith}
 use Rattle.table.proofs.reading.read_on.Given as goal
 
 abbrev pub invariant-loop-p : goal.invariant-loop-p

@@ -1,7 +1,6 @@
 -- By the number and the count.
 use Rattle.specification.specs.Reading.{read_table}
 use Rattle.table.proofs.reading.Filling.{no_port_lem, some_port_lem, faulty}
-use borrow.Author.Rules.{rules}
 use Rattle.table.proofs.reading.read_table.Goals as goal
 
 pub returns-then-read-eq0-2 : goal.returns-then-read-eq0-2

@@ -1,6 +1,5 @@
 -- By the tests, in their order.
 use Rattle.specification.specs.Reading.{delays_faulty}
-use borrow.Author.Rules.{rules}
 use Rattle.table.proofs.record.delays_faulty.Goals as goal
 
 pub returns-then-amount_faulty : goal.returns-then-amount_faulty

@@ -1,7 +1,6 @@
 -- By the tests, in their order.
 use Rattle.specification.specs.Reading.{ends_faulty}
 use borrow.Author.Tests.{le-leb, lt-leb}
-use borrow.Author.Rules.{rules}
 use Rattle.table.proofs.record.ends_faulty.Goals as goal
 
 pub returns-then-named-number_at : goal.returns-then-named-number_at

@@ -1,7 +1,6 @@
 -- By the tests, in their order.
 use Rattle.specification.specs.Reading.{events_faulty}
 use borrow.Author.Tests.{eq-eqb, ne_eqb, lt-ltb, le-ltb}
-use borrow.Author.Rules.{rules}
 use Rattle.table.proofs.record.events_faulty.Goals as goal
 
 pub returns-then-over-eq0 : goal.returns-then-over-eq0

@@ -1,7 +1,6 @@
 -- By the tests, in their order.
 use Rattle.specification.specs.Reading.{length_faulty}
 use borrow.Author.Tests.{lt-ltb, le-ltb}
-use borrow.Author.Rules.{rules}
 use Rattle.table.proofs.record.length_faulty.Goals as goal
 
 pub returns-then-left-lt2 : goal.returns-then-left-lt2

@@ -1,6 +1,5 @@
 -- By the tests, in their order.
 use Rattle.specification.specs.Reading.{parts_faulty}
-use borrow.Author.Rules.{rules}
 use Rattle.table.proofs.record.parts_faulty.Goals as goal
 
 pub returns-then-part_faulty : goal.returns-then-part_faulty

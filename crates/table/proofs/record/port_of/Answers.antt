@@ -1,6 +1,5 @@
 -- The fields are the numbers at their places.
 use Rattle.specification.specs.Reading.{port_of}
-use borrow.Author.Rules.{rules}
 use Rattle.table.proofs.record.port_of.Goals as goal
 
 pub returns : goal.returns

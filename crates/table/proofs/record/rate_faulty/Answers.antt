@@ -1,7 +1,6 @@
 -- By the tests, in their order.
 use Rattle.specification.specs.Reading.{rate_faulty}
 use borrow.Author.Tests.{eq-eqb, ne_eqb}
-use borrow.Author.Rules.{rules}
 use Rattle.table.proofs.record.rate_faulty.Goals as goal
 
 pub returns-then-number_at-eq0 : goal.returns-then-number_at-eq0

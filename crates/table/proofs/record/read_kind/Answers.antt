@@ -4,7 +4,6 @@ use Rattle.specification.specs.Reading.{kind_at}
 use Rattle.table.specs.Kinds.{is_of_lem, connection_read, buffer_read, fraction_read, none_read}
 use native.Mathlib.Omega.{arith}
 use borrow.Author.Tests.{eq-eqb}
-use borrow.Author.Rules.{rules}
 use Rattle.table.proofs.record.read_kind.Goals as goal
 
 pub returns-then-kind-eq1 : goal.returns-then-kind-eq1
@@ -14,15 +13,15 @@ returns-then-kind-eq1 c = rw (eq-eqb _ _ c.if-kind-eq1.true, c.read_port.ensures
 pub events_at-requires : goal.events_at-requires
 events_at-requires c =
     let given = c.requires in
-    omega (arith, given, (is_of_lem c.is_of_lem.ensures c.if-is_of.true).length_is)
+    omega (arith, given, (is_of_lem c.is_of.ensures c.if-is_of.true).length_is)
 
 pub read_link-requires : goal.read_link-requires
 read_link-requires c =
     let given = c.requires in
-    omega (arith, given, (is_of_lem c.is_of_lem.ensures c.if-is_of.true).length_is)
+    omega (arith, given, (is_of_lem c.is_of.ensures c.if-is_of.true).length_is)
 
 pub returns-then-is_of : goal.returns-then-is_of
-returns-then-is_of c = c.read_link.ensures ∙ rw c.events_at_lem.ensures (sym (connection_read _ _ _ _ _ (is_of_lem c.is_of_lem.ensures c.if-is_of.true)))
+returns-then-is_of c = c.read_link.ensures ∙ rw c.events_at.ensures (sym (connection_read _ _ _ _ _ (is_of_lem c.is_of.ensures c.if-is_of.true)))
 
 pub read_link-requires-then-is_of-2 : goal.read_link-requires-then-is_of-2
 read_link-requires-then-is_of-2 c =
@@ -35,7 +34,10 @@ returns-then-is_of-2 c = c.read_link-then-is_of-2.ensures ∙ sym (buffer_read _
 pub number_at-over-requires : goal.number_at-over-requires
 number_at-over-requires c =
     let given = c.requires in
-    (omega (arith, given, (is_of_lem c.is_of-3.ensures c.if-is_of-3.true).length_is), omega arith)
+    record {
+      n_in_bounds = omega (arith, given, (is_of_lem c.is_of-3.ensures c.if-is_of-3.true).length_is);
+      n_bound = omega arith;
+    }
 
 pub events_at-requires-then-is_of-3 : goal.events_at-requires-then-is_of-3
 events_at-requires-then-is_of-3 c =
@@ -53,6 +55,6 @@ returns-then-is_of-3 c =
 
 pub returns : goal.returns
 returns c =
-    let first = none_read _ _ _ _ _ c.if-kind-eq1.false c.is_of_lem.ensures c.if-is_of.false in
+    let first = none_read _ _ _ _ _ c.if-kind-eq1.false c.is_of.ensures c.if-is_of.false in
     rw c.kind_fault.ensures
     (sym (first c.is_of-2.ensures c.if-is_of-2.false c.is_of-3.ensures c.if-is_of-3.false))

@@ -12,7 +12,6 @@ use Rattle.specification.specs.declared.Read.TheVariants.{LinkRecord}
 use Rattle.table.specs.RecordLaws.{delays_over}
 use native.Mathlib.Omega.{arith}
 use borrow.Author.Tests.{le-leb, lt-leb}
-use borrow.Author.Rules.{rules}
 use Rattle.table.proofs.record.read_link.Goals as goal
 
 -- what is left where there is room and neither the ends nor the ratio have a fault

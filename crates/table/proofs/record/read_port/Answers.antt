@@ -1,7 +1,6 @@
 -- By the tests, in their order.
 use Rattle.specification.specs.Reading.{port_at}
 use borrow.Author.Tests.{le-leb, lt-leb, eq-eqb, ne_eqb, not-true, not-false}
-use borrow.Author.Rules.{rules}
 use Rattle.table.proofs.record.read_port.Goals as goal
 
 pub returns-then-n-ne6 : goal.returns-then-n-ne6
@@ -25,4 +24,4 @@ returns-then-rate_faulty c =
 pub returns : goal.returns
 unfolding port_at
 returns c =
-    rw (eq-eqb _ _ c.if-n-ne6.false, not-false c.args.before.port_may_come c.if-not-before.false, lt-leb _ _ c.if-before-ge-PORTS.false, ← c.rate_faulty.ensures, c.if-rate_faulty.false, c.port_of_lem.ensures)
+    rw (eq-eqb _ _ c.if-n-ne6.false, not-false c.args.before.port_may_come c.if-not-before.false, lt-leb _ _ c.if-before-ge-PORTS.false, ← c.rate_faulty.ensures, c.if-rate_faulty.false, c.port_of.ensures)

@@ -3,7 +3,6 @@ use Rattle.table.specs.RecordLaws.{whole}
 use Rattle.specification.specs.Reading.{record_at}
 use native.Mathlib.Omega.{arith}
 use borrow.Author.Tests.{le-leb, lt-leb}
-use borrow.Author.Rules.{rules}
 use Rattle.table.proofs.record.read_record.Goals as goal
 
 pub returns-then-s-at : goal.returns-then-s-at

@@ -1,8 +1,7 @@
 -- The two amounts of the four bytes.
 use Rattle.specification.specs.Reading.{ticks_at}
-use borrow.Author.Rules.{rules}
 use Rattle.table.proofs.record.ticks_at.Goals as goal
 
 pub returns : goal.returns
 unfolding ticks_at
-returns c = rw (c.forward_of_lem.ensures, c.back_of_lem.ensures, c.number_at-v.ensures.0)
+returns c = rw (c.forward_of.ensures, c.back_of.ensures, c.number_at-v.ensures.0)

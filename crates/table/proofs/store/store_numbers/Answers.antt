@@ -1,8 +1,6 @@
 -- What is left to store, stored in what there is now, makes the whole.
-use Prim.Native.Nat.{◌-◌}
-use lib.ListN.{length}
 use borrow.Author.Rules.{rules}
-use Rattle.table.proofs.Stored.{Left, left_all, left_less, left_none}
+use Rattle.table.proofs.Stored.{left_all, left_less, left_none}
 use Rattle.table.proofs.store.store_numbers.Goals as goal
 
 pub loop-i-init : goal.loop-i-init

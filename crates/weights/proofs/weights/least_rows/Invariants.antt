@@ -1,11 +1,8 @@
 -- Each turn of the loop passes one port more. The measure is how many are left.
 use Rattle.specification.specs.Table.{port_count}
 use Rattle.table.specs.Slices.{table_of}
-use Rattle.weights.proofs.weights.Lessening.{least_none, least_row, least_taken, least_all}
 use Rattle.weights.specs.LeastRows.{LeastRows}
 use Prim.Native.Nat.{◌-◌}
-use native.Mathlib.Omega.{arith}
-use borrow.Author.Rules.{rules}
 use Rattle.weights.proofs.weights.least_rows.Given as goal
 
 abbrev pub invariant-loop-p : goal.invariant-loop-p

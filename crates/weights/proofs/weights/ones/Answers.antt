@@ -1,7 +1,5 @@
 -- Each turn of the loop stores one weight more. The measure is how many ports are left.
-use Prim.Native.Nat.{◌-◌}
-use Rattle.weights.proofs.weights.Weighted.{OnesBelow, ones_none, ones_on, ones_all}
-use borrow.Author.Rules.{rules}
+use Rattle.weights.proofs.weights.Weighted.{ones_none, ones_on, ones_all}
 use Rattle.weights.proofs.weights.ones.Goals as goal
 
 pub loop-p-init : goal.loop-p-init

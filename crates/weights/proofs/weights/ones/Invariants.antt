@@ -1,7 +1,6 @@
 -- Each turn of the loop stores one weight more. The measure is how many ports are left.
 use Prim.Native.Nat.{◌-◌}
-use Rattle.weights.proofs.weights.Weighted.{OnesBelow, ones_none, ones_on, ones_all}
-use borrow.Author.Rules.{rules}
+use Rattle.weights.proofs.weights.Weighted.{OnesBelow}
 use Rattle.weights.proofs.weights.ones.Given as goal
 
 abbrev pub invariant-loop-p : goal.invariant-loop-p

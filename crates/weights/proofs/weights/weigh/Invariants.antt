@@ -1,10 +1,8 @@
 -- Each turn of the loop stores one weight more, or finds one above 10,000. The measure is how many ports are left.
 use Prim.Native.Nat.{◌-◌}
 use Rattle.table.specs.Slices.{table_of}
-use native.Mathlib.Omega.{arith}
 use Rattle.specification.specs.Table.{port_count}
-use Rattle.weights.proofs.weights.Weighted.{Weighted, labelled_rows, weighted_none, weighted_within, weighted_above, weighted_row, weighted_least, weighted_on, weighted_over, weighted_all}
-use borrow.Author.Rules.{rules}
+use Rattle.weights.proofs.weights.Weighted.{Weighted}
 use Rattle.weights.proofs.weights.weigh.Given as goal
 
 abbrev pub invariant-loop-p : goal.invariant-loop-p

@@ -1,12 +1,8 @@
 -- Each turn of the loop passes a denominator that is 1. The measure is how many links are left.
 use Prim.Native.Nat.{◌-◌}
-use mathlib.Core.Path.{sym}
-use mathlib.Core.Bool.{true≢false}
 use lib.ListN.{length}
-use native.Mathlib.Omega.{arith}
 use Rattle.table.specs.Slices.{links_of}
-use Rattle.weights.proofs.whole.Units.{UnitsTo, units_none, units_on, units_all}
-use borrow.Author.Rules.{rules}
+use Rattle.weights.proofs.whole.Units.{UnitsTo}
 use Rattle.weights.proofs.whole.all_units.Given as goal
 
 abbrev pub invariant-loop-k : goal.invariant-loop-k

@@ -1,8 +1,6 @@
 -- Each turn of the loop multiplies one weight more, or finds one above 10,000. The measure is how many are left.
-use Prim.Native.Nat.{◌-◌}
 use native.Mathlib.Omega.{arith}
-use Rattle.weights.proofs.whole.Multiplying.{MultipliedSo, multiplied_one, multiplied_none, product_small, multiplied_on, multiplied_over, multiplied_all}
-use borrow.Author.Rules.{rules}
+use Rattle.weights.proofs.whole.Multiplying.{multiplied_one, multiplied_none, product_small, multiplied_on, multiplied_over, multiplied_all}
 use Rattle.weights.proofs.whole.multiply.Goals as goal
 
 pub returns-then-f-eq1 : goal.returns-then-f-eq1

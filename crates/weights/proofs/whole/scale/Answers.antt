@@ -1,7 +1,6 @@
 -- The least factor is the denominator in lowest terms.
 use native.Mathlib.Omega.{arith}
 use Rattle.weights.proofs.whole.Multiplying.{scale_product, scale_factor, scale_multiplied}
-use borrow.Author.Rules.{rules}
 use Rattle.weights.proofs.whole.scale.Goals as goal
 
 pub overflow_mul-amount : goal.overflow_mul-amount

@@ -1,10 +1,8 @@
 -- Each turn of the loop makes one condition more hold, or finds a weight above 10,000. The measure is how many conditions are left.
 use Prim.Native.Nat.{◌*◌, ◌-◌}
-use native.Mathlib.Omega.{arith}
 use Rattle.specification.specs.Table.{link_count}
 use Rattle.table.specs.Slices.{table_of}
-use Rattle.weights.proofs.whole.Conditions.{ScaledSo, scaled_none, over_fits, scalable, scaled_on, scaled_over, scaled_all}
-use borrow.Author.Rules.{rules}
+use Rattle.weights.proofs.whole.Conditions.{ScaledSo}
 use Rattle.weights.proofs.whole.scale_all.Given as goal
 
 abbrev pub invariant-loop-i : goal.invariant-loop-i

@@ -1,9 +1,8 @@
 -- By the test.
-use Rattle.table.proofs.numbers.Halves.{below_half, from_half}
+use Rattle.table.proofs.four_bytes.Halves.{below_half, from_half}
 use Rattle.specification.specs.Reading.{forward}
 use borrow.Author.Tests.{lt-ltb, le-ltb}
-use borrow.Author.Rules.{rules}
-use Rattle.table.proofs.numbers.forward_of.Goals as goal
+use Rattle.table.proofs.four_bytes.forward_of.Goals as goal
 
 pub returns-then-v : goal.returns-then-v
 unfolding forward

@@ -1,9 +1,8 @@
 -- By the test.
-use Rattle.table.proofs.numbers.Halves.{below_half, from_half}
+use Rattle.table.proofs.four_bytes.Halves.{below_half, from_half}
 use Rattle.specification.specs.Reading.{back}
 use borrow.Author.Tests.{lt-ltb, le-ltb}
-use borrow.Author.Rules.{rules}
-use Rattle.table.proofs.numbers.back_of.Goals as goal
+use Rattle.table.proofs.four_bytes.back_of.Goals as goal
 
 pub returns-then-v-below : goal.returns-then-v-below
 unfolding back
