@@ -1,4 +1,4 @@
-//! The timing check of Vundayre, for Rust of edition 2024 or 2021. Link with libvundayre.a (`rt staticlib vundayre`) of the same version: the
+//! The timing check of Vundayre, for Rust of edition 2024 or 2021. Link with libvundayre.a (`tools/build vundayre`) of the same version: the
 //! layout below is no other version's.
 
 // a program may use a part of this
@@ -7,9 +7,9 @@
 /// An answer buffer of this many bytes suffices for every table; a shorter one is refused with number 1.
 pub const ANSWER_BYTES: usize = 5120;
 
-/// A thread with a stack of this many bytes can analyse every table, join and preview any two and hide any port (the frames of the analysis take
-/// 93,152 of them, those of the join 11,096, of the preview 93,216 and of hiding 93,184; none recurses; `bench/run` tries it out;
-/// it is not proved).
+/// A thread with a stack of this many bytes can analyse every table, join and preview any two and hide any port (`bench/run` tries it out; it is not
+/// proved; none recurses). As measured with the kit before rattle-kit-13f, the frames of the analysis take 93,152 of them, those of the join
+/// 11,096, of the preview 93,216 and of hiding 93,184.
 pub const STACK_BYTES: usize = 98_304;
 
 /// A buffer of this many bytes suffices for every joined table and for every table with a hidden port; a shorter one may be refused with number

@@ -119,7 +119,7 @@ def main():
     options.add_argument('--program', default=built('join_cases'), help='the built program')
     program = options.parse_args().program
     if not os.path.exists(program):
-        sys.exit(f'{program} is not built: only it says what previews show, so nothing is written')
+        sys.exit(f'{program} is not built (tools/build join_cases): only it says what previews show, so nothing is written')
     random.seed(20261116)
     joins = [*fixed_cases(), *link_splits(), *random_cases()]
     random.seed(20261118)

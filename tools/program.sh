@@ -43,17 +43,16 @@ join_records() {
     records_of "$3" "$room/added" --added
 }
 
-# Sets `program` to the program of crate $1. It is built where it is missing, or where something is newer than the last build that passed. That
-# time is kept apart: rt goes by contents, and leaves a program that need not change as old as it is.
+# Sets `program` to the program of crate $1. It is built where it is missing, or where code, definitions or proofs are newer than the last build that
+# passed. That time is kept apart: rt goes by contents, and leaves a program that need not change as old as it is.
 need_program() {
     program=$base/target/bin/$1
     built=$base/target/$1.built
-    if ! [ -x "$program" ] || ! [ -e "$built" ] || [ -n "$(find "$base/crates" "$base/crates.txt" -newer "$built")" ]; then
+    if ! [ -x "$program" ] || ! [ -e "$built" ] ||
+        [ -n "$(find "$base"/crates.txt "$base"/crates/*/src "$base"/crates/*/specs "$base"/crates/*/proofs -newer "$built")" ]; then
         echo "$name: proving and building the $name program, which takes minutes at first use" >&2
-        # rt does not look whether a program that it built is still there
-        [ -x "$program" ] || rm -f "$base/target/stamp/$1"
         touch "$room/begun"
-        (cd "$base" && rt check "$1") < /dev/null >&2 || fail "the $name program was not built"
+        "$base/tools/build" "$1" < /dev/null >&2 || fail "the $name program was not built"
         touch -r "$room/begun" "$built"
     fi
 }

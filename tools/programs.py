@@ -1,4 +1,4 @@
-"""Runs the built programs `models`, `join_cases` and `hide_cases`, each on many cases at once."""
+"""Runs the programs `models`, `join_cases` and `hide_cases`, which `tools/build NAME` builds, each on many cases at once."""
 import os
 import re
 import struct
@@ -9,7 +9,7 @@ BASE = os.path.dirname(os.path.dirname(os.path.abspath(__file__)))
 
 
 def built(name):
-    """Where a program stands once it is built."""
+    """Where `tools/build` puts a program."""
     return os.path.join(BASE, 'target', 'bin', name)
 
 

@@ -19,7 +19,7 @@ ROOTS = [f'crates/specification/specs/{name}.antt' for name in ('Analysed', 'Dem
                                                               'Meaning', 'Hiding', 'HiddenTimes')]
 PAGE = 'docs/READING.md'
 MOST_LINE = 300
-IMPORT = re.compile(r'^\s*use Rattle·([a-z_]+)(?:·specs)?\.specs\.([A-Za-z0-9_.\-]+?)\.\{', re.M)
+IMPORT = re.compile(r'^\s*(?:pub |ghost )?use Rattle\.([a-z_]+)\.specs\.([A-Za-z0-9_.]+?)(?:\.\{|\s)', re.M)
 
 
 def read(path):
@@ -31,6 +31,8 @@ def imports(path):
     """The files of this repository that a file imports, in their order."""
     for crate, module in IMPORT.findall(read(path)):
         parts = module.split('.')
+        if not os.path.isdir(os.path.join(BASE, 'crates', crate)):
+            continue  # a library of the kit
         if parts[0] == 'declared':
             yield f'crates/{crate}/src/lib.rt'
         else:
@@ -44,9 +46,8 @@ def reached(roots):
     def visit(path):
         if path in order:
             return
-        if path.endswith('.antt'):
-            for other in imports(path):
-                visit(other)
+        for other in imports(path):
+            visit(other)
         order.append(path)
 
     for root in roots:
@@ -81,11 +82,12 @@ def table():
 def longest():
     """The longest line of definitions, proofs and code, and where it stands."""
     most = (0, '')
-    for path in sorted(glob.glob(os.path.join(BASE, 'crates', '**', '*'), recursive=True)):
-        if path.endswith(('.antt', '.rt')):
-            with open(path, encoding='utf-8') as file:
-                for number, line in enumerate(file, 1):
-                    most = max(most, (len(line.rstrip('\n')), f'{os.path.relpath(path, BASE)}:{number}'))
+    for part in ('src', 'specs', 'proofs'):
+        for path in glob.glob(os.path.join(BASE, 'crates', '*', part, '**', '*'), recursive=True):
+            if path.endswith(('.antt', '.rt')):
+                with open(path, encoding='utf-8') as file:
+                    for number, line in enumerate(file, 1):
+                        most = max(most, (len(line.rstrip('\n')), f'{os.path.relpath(path, BASE)}:{number}'))
     return most
 
 
