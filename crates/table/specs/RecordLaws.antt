@@ -238,7 +238,8 @@ module _ (s : List ℕ) (at : ℕ) (before : Before) where
   tells_link : (events : Events) (over kind next : ℕ) → Onward s at 16 24 next → eqb (number_at s (at + 2) 2) 1 ≡ false → OfKind events over kind
       → Tells (link_at s at before events over kind next)
   unfolding link_at link_of delays_faulty ticks_at
-  tells_link events over kind next onward no_port_lem of_kind = behind 7 (omega (arith, onward)) _ _ (λ room. behind 9 (omega (arith, onward)) _ _ (λ ends. behind 10 (omega (arith, onward)) _ _ (λ parts. behind 11 (omega (arith, onward)) _ _ (λ amounts. record { told = told room ends parts amounts }))))
+  tells_link events over kind next onward no_port_lem of_kind =
+      behind 7 (omega (arith, onward)) _ _ (λ room. behind 9 (omega (arith, onward)) _ _ (λ ends. behind 10 (omega (arith, onward)) _ _ (λ parts. behind 11 (omega (arith, onward)) _ _ (λ amounts. record { told = told room ends parts amounts }))))
     where
       ticks : Ticks
       ticks = ticks_at s (at + 12)
