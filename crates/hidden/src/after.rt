@@ -74,7 +74,7 @@ pub fn write_links(
     out: &mut [u8],
 ) -> usize
     requires split { Split (links_of links.now) into.now from.now apart.now }
-    requires p_in_bounds { length (encode_links (links_in (links_of links.now) into.now from.now apart.now p)) ≤ length out.old }
+    requires room { length (encode_links (links_in (links_of links.now) into.now from.now apart.now p)) ≤ length out.old }
     ensures { Written (encode_links (links_in (links_of links.now) into.now from.now apart.now p)) out.old out.new result }
 {
     let count = apart.len() + into.len() * from.len();
@@ -122,7 +122,7 @@ pub fn write_ports(ports: &[u32], limit: Limit, p: usize, out: &mut [u8]) -> usi
     requires p_in_bounds { p < length (ports_of ports.now) }
     requires sender_in_bounds { limit.sender < length (ports_of ports.now) }
     requires ports_len_bound { length (ports_of ports.now) ≤ 64 }
-    requires p_in_bounds_2 { length (encode_ports (ports_in limit (ports_of ports.now) p)) ≤ length out.old }
+    requires room { length (encode_ports (ports_in limit (ports_of ports.now) p)) ≤ length out.old }
     ensures { Written (encode_ports (ports_in limit (ports_of ports.now) p)) out.old out.new result }
 {
     let count = ports::count(ports) - 1;

@@ -46,8 +46,8 @@ fn lowest_sender(links: &[u32], into: &[u8]) -> Link
 fn carried_rate(r: Port, l: Link) -> Port
     requires port_fits { PortFits r }
     requires num_nonzero { 0 < r.num }
-    requires part_fits { PartFits l.num }
-    requires part_fits_2 { PartFits l.den }
+    requires num_fits { PartFits l.num }
+    requires den_fits { PartFits l.den }
     ensures value { result ≡ carried_rate r l }
     ensures num_bound { result.num ≤ most_part * most_part }
     ensures den_bound { result.den ≤ most_part * most_part }
@@ -74,7 +74,7 @@ fn is_slower(r: Port, s: Port) -> bool
 
 pub fn limit_of(ports: &[u32], links: &[u32], into: &[u8], p: usize) -> Limit
     requires well_formed { WellFormed (table_of ports.now links.now) }
-    requires p_value { cannot_hide (table_of ports.now links.now) p ≡ false }
+    requires can_hide { cannot_hide (table_of ports.now links.now) p ≡ false }
     requires senders { Senders (links_of links.now) p into.now }
     ensures { IsLimit (table_of ports.now links.now) p result }
 {

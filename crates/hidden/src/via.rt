@@ -45,8 +45,8 @@ fn difference(a: u64, b: u64) -> u64
 
 // An amount of the first δ plus one of the second divided by the first link's ratio, over the denominator of both.
 fn sum_via(x: Link, y: Link, first: u64, second: u64) -> u64
-    requires link_fits { LinkFits 64 x }
-    requires link_fits_2 { LinkFits 64 y }
+    requires x_fits { LinkFits 64 x }
+    requires y_fits { LinkFits 64 y }
     requires first_bound { first ≤ most_events * most_over }
     requires second_bound { second ≤ most_events * most_over }
     ensures { result ≡ first * (y.over * x.num) + second * (x.den * x.over) }
@@ -69,8 +69,8 @@ fn net(forward: u64, back: u64, over: u64) -> Delta
 }
 
 fn delta_via(x: Link, y: Link) -> Delta
-    requires link_fits { LinkFits 64 x }
-    requires link_fits_2 { LinkFits 64 y }
+    requires x_fits { LinkFits 64 x }
+    requires y_fits { LinkFits 64 y }
     ensures { IsDelta x y result }
 {
     let first = x.events;
@@ -81,8 +81,8 @@ fn delta_via(x: Link, y: Link) -> Delta
 }
 
 fn ticks_via(x: Link, y: Link) -> Ticks
-    requires link_fits { LinkFits 64 x }
-    requires link_fits_2 { LinkFits 64 y }
+    requires x_fits { LinkFits 64 x }
+    requires y_fits { LinkFits 64 y }
     ensures { result ≡ (via x y).ticks }
 {
     let first = x.ticks;
@@ -93,8 +93,8 @@ fn ticks_via(x: Link, y: Link) -> Ticks
 }
 
 fn made_via(x: Link, y: Link) -> Made
-    requires link_fits { LinkFits 64 x }
-    requires link_fits_2 { LinkFits 64 y }
+    requires x_fits { LinkFits 64 x }
+    requires y_fits { LinkFits 64 y }
     ensures { made_of result ≡ via x y }
 {
     let ratio = Fraction::reduced(x.num * y.num, x.den * y.den);
@@ -111,8 +111,8 @@ fn made_via(x: Link, y: Link) -> Made
 // New connection k: by the first connection, then the second.
 pub fn made_at(links: &[u32], into: &[u8], from: &[u8], k: usize) -> Made
     requires links_fit { LinksFit (links_of links.now) }
-    requires numbers { Numbers (links_of links.now) into.now }
-    requires numbers_2 { Numbers (links_of links.now) from.now }
+    requires into_numbers { Numbers (links_of links.now) into.now }
+    requires from_numbers { Numbers (links_of links.now) from.now }
     requires k_in_bounds { k < length into.now * length from.now }
     ensures { made_of result ≡ get_or (flat_map (via_each (picked (links_of links.now) from.now)) (picked (links_of links.now) into.now)) k no_link }
 {
@@ -151,8 +151,8 @@ fn leaves_range(m: Made) -> bool
 // 19 of the new connections, of which there may be 16,384.
 pub fn any_leaves(links: &[u32], into: &[u8], from: &[u8]) -> bool
     requires links_fit { LinksFit (links_of links.now) }
-    requires numbers { Numbers (links_of links.now) into.now }
-    requires numbers_2 { Numbers (links_of links.now) from.now }
+    requires into_numbers { Numbers (links_of links.now) into.now }
+    requires from_numbers { Numbers (links_of links.now) from.now }
     requires into_len_bound { length into.now ≤ 256 }
     requires from_len_bound { length from.now ≤ 256 }
     ensures { result ≡ not (none (keep link_leaves (flat_map (via_each (picked (links_of links.now) from.now)) (picked (links_of links.now) into.now)))) }

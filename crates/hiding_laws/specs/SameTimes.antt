@@ -2,7 +2,7 @@
 use Rattle.std.specs.Prelude.{ℕ, ◌≡◌, refl, ◌≢◌}
 use Rattle.std.proofs.Common.{arith}
 use Rattle.std.proofs.Math.Decide.{ℕ_discrete}
-use Rattle.numbers.specs.Rationals.{Rational, ◌≼◌, ◌≺◌, ◌≈◌, ◌⊕◌, ◌·◌}
+use Rattle.numbers.specs.Rationals.{Rational, ◌≈◌, ◌⊕◌, ◌·◌}
 use Rattle.numbers.specs.RationalLaws.{≼-antisym, ≼_trans, ≼-not-≺, ≈-≼, ≈-sym, ≈-trans, ≈-refl, ⊕-≈, ⊗-left-≈, ·-≈, ·-cancel-≈}
 use Rattle.specification.specs.Table.{Table, port_count, IsPort, from, num, den}
 use Rattle.specification.specs.Ratios.{SmallWeights, Overweight}

@@ -20,9 +20,9 @@ pub fn report(
     out: &mut [u8],
     text: &mut [u8],
 ) -> Lengths
-    requires read_into { ReadInto first.now first_read }
-    requires read_into_2 { ReadInto second.now second_read }
-    requires read_into_3 { ReadInto added.now added_read }
+    requires first_read_into { ReadInto first.now first_read }
+    requires second_read_into { ReadInto second.now second_read }
+    requires added_read_into { ReadInto added.now added_read }
     requires most_table_bytes_in_bounds { most_table_bytes ≤ length out.old }
     requires line_room_in_bounds { line_room ≤ length text.old }
     ensures { JoinReported (file_of first.now first_read) (file_of second.now second_read) (file_of added.now added_read) out.new text.new result }

@@ -50,9 +50,9 @@ pub fn report(
     added_read: Input,
     text: &mut [u8],
 ) -> usize
-    requires read_into { ReadInto first.now first_read }
-    requires read_into_2 { ReadInto second.now second_read }
-    requires read_into_3 { ReadInto added.now added_read }
+    requires first_read_into { ReadInto first.now first_read }
+    requires second_read_into { ReadInto second.now second_read }
+    requires added_read_into { ReadInto added.now added_read }
     requires text_room_in_bounds { text_room ≤ length text.old }
     ensures { PreviewReported (file_of first.now first_read) (file_of second.now second_read) (file_of added.now added_read) text.old text.new result }
 {

@@ -3,7 +3,6 @@ use native.Mathlib.Omega.{arith}
 use lib.ListN.{length-take}
 use Rattle.table.specs.Slices.{table_of}
 use Rattle.hidden.specs.HiddenIn.{hidden_18, no_port_lem, some_bars, no_sender, no_receiver, can_hide, numbers_of, some_numbers}
-use borrow.Author.Rules.{rules}
 use Rattle.hidden.proofs.hide_in.Goals as goal
 
 pub returns-then-count-p : goal.returns-then-count-p

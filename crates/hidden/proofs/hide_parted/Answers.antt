@@ -1,11 +1,10 @@
 -- By the tests, in their order.
 use native.Mathlib.Omega.{arith}
 use Rattle.hidden.specs.HiddenIn.{hidden_19, hidden_7, links_fit, made_most, senders, after_count, rate_leaves_lem, links_leave, none_leaves, can_write}
-use borrow.Author.Rules.{rules}
 use Rattle.hidden.proofs.hide_parted.Goals as goal
 
 pub limit_of-limit-requires : goal.limit_of-limit-requires
-limit_of-limit-requires c = let d = c.requires in (d.formed, (d.can, senders d))
+limit_of-limit-requires c = let d = c.requires in record { well_formed = d.formed; can_hide = d.can; senders = senders d }
 
 pub returns-then-limit_leaves : goal.returns-then-limit_leaves
 returns-then-limit_leaves c =
@@ -15,7 +14,13 @@ pub any_leaves-requires : goal.any_leaves-requires
 any_leaves-requires c =
     let d = c.requires in
     let few = d.formed.few_links in
-    (links_fit d, (d.into_are.numbers_are, (d.from_are.numbers_are, (omega (arith, d.into_are.few, few), omega (arith, d.from_are.few, few)))))
+    record {
+      links_fit = links_fit d;
+      into_numbers = d.into_are.numbers_are;
+      from_numbers = d.from_are.numbers_are;
+      into_len_bound = omega (arith, d.into_are.few, few);
+      from_len_bound = omega (arith, d.from_are.few, few);
+    }
 
 pub returns-then-any_leaves : goal.returns-then-any_leaves
 returns-then-any_leaves c =

@@ -3,7 +3,6 @@ use native.Mathlib.Omega.{arith}
 use lib.ListN.{length-take, length-drop}
 use Rattle.records.specs.WrittenLaws.{written_append}
 use Rattle.hidden.specs.HiddenIn.{hidden_16, hidden_0, here, table_size_lem, bytes_are, sender_here, few_after, apart_size, bytes_length}
-use borrow.Author.Rules.{rules}
 use Rattle.hidden.proofs.write_hidden.Goals as goal
 
 pub overflow_mul-made : goal.overflow_mul-made
@@ -11,37 +10,37 @@ overflow_mul-made c = omega (arith, c.requires.split.few)
 
 pub overflow_add-size : goal.overflow_add-size
 overflow_add-size c =
-    omega (arith, apart_size c.requires, c.type_size.ensures, c.count.ensures, c.requires.parted.formed.few_ports)
+    omega (arith, apart_size c.requires, c.size_of.ensures, c.count.ensures, c.requires.parted.formed.few_ports)
 
 pub overflow_mul-size-2 : goal.overflow_mul-size-2
 overflow_mul-size-2 c = omega (arith, c.requires.split.few)
 
 pub overflow_add-size-2 : goal.overflow_add-size-2
 overflow_add-size-2 c =
-    omega (arith, apart_size c.requires, c.type_size.ensures, c.count.ensures, c.requires.parted.formed.few_ports, c.requires.split.few)
+    omega (arith, apart_size c.requires, c.size_of.ensures, c.count.ensures, c.requires.parted.formed.few_ports, c.requires.split.few)
 
 pub returns-then-out-size : goal.returns-then-out-size
 returns-then-out-size c =
     let w = c.requires in
-    hidden_16 w.parted.can w.stays (few_after w) c.refusal.ensures (omega (arith, table_size_lem w.parted, c.type_size.ensures, c.count.ensures, c.if-out-size.true))
+    hidden_16 w.parted.can w.stays (few_after w) c.refusal.ensures (omega (arith, table_size_lem w.parted, c.size_of.ensures, c.count.ensures, c.if-out-size.true))
 
 pub write_ports-at-requires : goal.write_ports-at-requires
 write_ports-at-requires c =
     let w = c.requires in
-    (here w.parted, (sender_here w, (w.parted.formed.few_ports, omega (arith, bytes_length w, table_size_lem w.parted, c.type_size.ensures, c.count.ensures, c.if-out-size.false))))
+    record { p_in_bounds = here w.parted; sender_in_bounds = sender_here w; ports_len_bound = w.parted.formed.few_ports; room = omega (arith, bytes_length w, table_size_lem w.parted, c.size_of.ensures, c.count.ensures, c.if-out-size.false) }
 
 pub slice_bounds-write_links-count : goal.slice_bounds-write_links-count
 slice_bounds-write_links-count c =
-    omega (arith, c.write_ports-at.ensures.counted, bytes_length c.requires, table_size_lem c.requires.parted, c.type_size.ensures, c.count.ensures, c.if-out-size.false)
+    omega (arith, c.write_ports-at.ensures.counted, bytes_length c.requires, table_size_lem c.requires.parted, c.size_of.ensures, c.count.ensures, c.if-out-size.false)
 
 pub slice_bounds-write_links-start : goal.slice_bounds-write_links-start
 slice_bounds-write_links-start c =
-    omega (arith, c.write_ports-at.ensures.counted, bytes_length c.requires, table_size_lem c.requires.parted, c.type_size.ensures, c.count.ensures, c.if-out-size.false)
+    omega (arith, c.write_ports-at.ensures.counted, bytes_length c.requires, table_size_lem c.requires.parted, c.size_of.ensures, c.count.ensures, c.if-out-size.false)
 
 pub write_links-requires : goal.write_links-requires
 write_links-requires c =
     let w = c.requires in
-    (w.split, simp (length-take, length-drop) (omega (arith, c.write_ports-at.ensures.counted, bytes_length w, table_size_lem w.parted, c.type_size.ensures, c.count.ensures, c.if-out-size.false)))
+    record { split = w.split; room = simp (length-take, length-drop) (omega (arith, c.write_ports-at.ensures.counted, bytes_length w, table_size_lem w.parted, c.size_of.ensures, c.count.ensures, c.if-out-size.false)) }
 
 pub overflow_add-written : goal.overflow_add-written
 overflow_add-written c =
@@ -60,5 +59,5 @@ overflow_add-written c =
 pub returns : goal.returns
 returns c =
     let w = c.requires in
-    hidden_0 w.parted.can w.stays (few_after w) (omega (arith, table_size_lem w.parted, c.type_size.ensures, c.count.ensures, c.if-out-size.false))
+    hidden_0 w.parted.can w.stays (few_after w) (omega (arith, table_size_lem w.parted, c.size_of.ensures, c.count.ensures, c.if-out-size.false))
     (rw (bytes_are w.parted w.limit_is) at (written_append c.write_ports-at.ensures c.write_links.ensures))

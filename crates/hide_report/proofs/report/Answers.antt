@@ -4,36 +4,35 @@ use mathlib.Core.Bool.{true, false}
 use native.Mathlib.Omega.{arith}
 use lib.ListN.{length-take}
 use borrow.Author.Rules.{rules}
-use borrow.Author.Tests.{not-true, not-false}
 use Rattle.hide_report.proofs.Reported.{whole_is, reported_no_number, reported_not_whole, reported_table}
 use Rattle.hide_report.proofs.report.Goals as goal
 
 pub returns-then-not-is_number : goal.returns-then-not-is_number
 returns-then-not-is_number c =
-    let call = c.is_number_lem in
-    reported_no_number (sym call.ensures ∙ not-true call.result c.if-not-is_number.true) c.print_line-line.ensures.written
+    let call = c.is_number in
+    reported_no_number (sym call.ensures ∙ c.if-not-is_number.true) c.print_line-line.ensures.written
 
 pub returns-then-not-whole : goal.returns-then-not-whole
 returns-then-not-whole c =
     let whole = c.whole in
-    let call = c.is_number_lem in
+    let call = c.is_number in
     reported_not_whole
-    (sym call.ensures ∙ not-false call.result c.if-not-is_number.false)
-    (whole_is false c.requires.read_into whole.ensures (not-true whole.result c.if-not-whole.true))
+    (sym call.ensures ∙ c.if-not-is_number.false)
+    (whole_is false c.requires.read_into whole.ensures c.if-not-whole.true)
     c.print_not_whole-line.ensures.written
 
 pub slice_bounds-report_table-end : goal.slice_bounds-report_table-end
 slice_bounds-report_table-end c = simp length-take (omega arith)
 
 pub port_number-requires : goal.port_number-requires
-port_number-requires c = let call = c.is_number_lem in sym call.ensures ∙ not-false call.result c.if-not-is_number.false
+port_number-requires c = let call = c.is_number in sym call.ensures ∙ c.if-not-is_number.false
 
 pub returns : goal.returns
 returns c =
     let whole = c.whole in
-    let call = c.is_number_lem in
+    let call = c.is_number in
     reported_table
-    (sym call.ensures ∙ not-false call.result c.if-not-is_number.false)
-    (whole_is true c.requires.read_into whole.ensures (not-false whole.result c.if-not-whole.false))
+    (sym call.ensures ∙ c.if-not-is_number.false)
+    (whole_is true c.requires.read_into whole.ensures c.if-not-whole.false)
     c.port_number.ensures
     c.report_table.ensures

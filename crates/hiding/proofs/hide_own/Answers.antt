@@ -2,7 +2,6 @@
 use native.Mathlib.Omega.{arith}
 use lib.ListN.{length-take}
 use Rattle.hiding.specs.Hides.{returned_own, returned_hidden}
-use borrow.Author.Rules.{rules}
 use Rattle.hiding.proofs.hide_own.Goals as goal
 
 pub returns-then-own-ne0 : goal.returns-then-own-ne0

@@ -1,5 +1,4 @@
 -- By whether the files were read whole.
-use borrow.Author.Rules.{rules}
 use Rattle.preview_report.proofs.is_stopped.Goals as goal
 
 pub returns : goal.returns

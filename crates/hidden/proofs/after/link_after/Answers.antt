@@ -6,7 +6,6 @@ use lib.ListN.{length}
 use Rattle.specification.specs.Hiding.{renumbered}
 use Rattle.table.specs.Slices.{links_of}
 use Rattle.hidden.specs.After.{link_kept, link_made, made_fits}
-use borrow.Author.Rules.{rules}
 use Rattle.hidden.proofs.after.link_after.Goals as goal
 
 pub returns-then-k-apart : goal.returns-then-k-apart
@@ -14,7 +13,7 @@ returns-then-k-apart c =
     c.renumber.ensures ∙ ap (renumbered c.args.p) c.link_at.ensures ∙ link_kept (links_of c.args.links.now) c.args.into.now c.args.from.now c.args.apart.now c.args.p c.args.k c.if-k-apart.true
 
 pub made_at-made-requires : goal.made_at-made-requires
-made_at-made-requires c = let given = c.requires in (given.0.fit, (given.0.into_numbers, (given.0.from_numbers, omega arith)))
+made_at-made-requires c = let split = c.requires.split in record { links_fit = split.fit; into_numbers = split.into_numbers; from_numbers = split.from_numbers; k_in_bounds = omega arith }
 
 pub link_of-requires : goal.link_of-requires
 link_of-requires c =

@@ -1,7 +1,6 @@
 -- By the test.
 use borrow.Author.Tests.{lt-ltb, le-ltb}
 use Rattle.specification.specs.Hiding.{new_number}
-use borrow.Author.Rules.{rules}
 use Rattle.hidden.proofs.after.new_number.Goals as goal
 
 pub returns-then-p-q : goal.returns-then-p-q

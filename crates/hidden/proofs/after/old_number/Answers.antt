@@ -1,6 +1,5 @@
 -- By the test.
 use borrow.Author.Tests.{lt-ltb, le-ltb}
-use borrow.Author.Rules.{rules}
 use Rattle.specification.specs.Hiding.{old_number}
 use Rattle.hidden.proofs.after.old_number.Goals as goal
 

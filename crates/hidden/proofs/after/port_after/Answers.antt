@@ -5,12 +5,11 @@ use lib.ListN.{length}
 use Rattle.table.specs.Slices.{ports_of}
 use Rattle.hiding_laws.specs.PortNumbers.{old_below}
 use Rattle.hidden.specs.After.{port_lowered, port_other}
-use borrow.Author.Rules.{rules}
 use Rattle.hidden.proofs.after.port_after.Goals as goal
 
 pub returns-then-lowers_port : goal.returns-then-lowers_port
 returns-then-lowers_port c =
-    port_lowered c.args.limit (ports_of c.args.ports.now) c.args.p c.requires.p_in_bounds c.requires.sender_in_bounds.0 c.args.q c.old_number-old.ensures c.lowers_port.ensures c.if-lowers_port.true
+    port_lowered c.args.limit (ports_of c.args.ports.now) c.args.p c.requires.p_in_bounds c.requires.sender_in_bounds c.args.q c.old_number-old.ensures c.lowers_port.ensures c.if-lowers_port.true
 
 pub at-requires : goal.at-requires
 at-requires c =
@@ -20,4 +19,4 @@ at-requires c =
 
 pub returns : goal.returns
 returns c =
-    port_other c.args.limit (ports_of c.args.ports.now) c.args.p c.requires.p_in_bounds c.requires.sender_in_bounds.0 c.args.q c.old_number-old.ensures c.lowers_port.ensures c.if-lowers_port.false c.at.ensures
+    port_other c.args.limit (ports_of c.args.ports.now) c.args.p c.requires.p_in_bounds c.requires.sender_in_bounds c.args.q c.old_number-old.ensures c.lowers_port.ensures c.if-lowers_port.false c.at.ensures

@@ -1,5 +1,4 @@
 -- Both ends have their new numbers.
-use borrow.Author.Rules.{rules}
 use Rattle.hidden.proofs.after.renumber.Goals as goal
 
 pub returns : goal.returns

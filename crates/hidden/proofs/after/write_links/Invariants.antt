@@ -1,14 +1,11 @@
 -- Each turn of the loop writes the record of one link more behind the others.
 use Prim.Native.Nat.{◌+◌, ◌*◌, ◌-◌}
-use native.Mathlib.Omega.{arith}
-use lib.ListN.{length, take, length-take, length-drop}
+use lib.ListN.{length}
 use Rattle.specification.specs.Table.{no_link}
 use Rattle.specification.specs.Encoding.{encode_link}
 use Rattle.table.specs.Slices.{links_of}
-use Rattle.encoding.specs.EncodingLaws.{links_most}
-use Rattle.encoding.specs.SoFar.{WrittenFirst, written_none, next_room, written_on, written_all}
-use Rattle.hidden.specs.After.{links_in, links_length, link_fits}
-use borrow.Author.Rules.{rules}
+use Rattle.encoding.specs.SoFar.{WrittenFirst}
+use Rattle.hidden.specs.After.{links_in}
 use Rattle.hidden.proofs.after.write_links.Given as goal
 
 abbrev pub invariant-loop-k : goal.invariant-loop-k

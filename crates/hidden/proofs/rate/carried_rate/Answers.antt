@@ -6,21 +6,20 @@ use native.Mathlib.Omega.{arith}
 use Rattle.hidden.proofs.rate.carried_rate.Goals as goal
 
 pub overflow_mul-r : goal.overflow_mul-r
-overflow_mul-r c = omega (arith, product_most 1000 1000 c.requires.port_fits.num_most c.requires.num_nonzero.1.1.most)
+overflow_mul-r c = omega (arith, product_most 1000 1000 c.requires.port_fits.num_most c.requires.den_fits.most)
 
 pub overflow_mul-r-2 : goal.overflow_mul-r-2
-overflow_mul-r-2 c = omega (arith, product_most 1000 1000 c.requires.port_fits.den_most c.requires.num_nonzero.1.0.most)
+overflow_mul-r-2 c = omega (arith, product_most 1000 1000 c.requires.port_fits.den_most c.requires.num_fits.most)
 
 pub reduced-rate-requires : goal.reduced-rate-requires
-reduced-rate-requires c = mul-pos (c.requires.port_fits.rated c.requires.num_nonzero.0) c.requires.num_nonzero.1.0.least
+reduced-rate-requires c = mul-pos (c.requires.port_fits.rated c.requires.num_nonzero) c.requires.num_fits.least
 
 pub returns : goal.returns
 returns c =
     let r = c.args.r in
-    let l = c.args.l in (
-      carried_is r l c.reduced-rate.ensures,
-      (
-        omega (arith, num_most (r.num * l.den) (r.den * l.num) c.reduced-rate.ensures, product_most 1000 1000 c.requires.port_fits.num_most c.requires.num_nonzero.1.1.most),
-        omega (arith, den_most (r.num * l.den) (r.den * l.num) c.reduced-rate.ensures, product_most 1000 1000 c.requires.port_fits.den_most c.requires.num_nonzero.1.0.most),
-      ),
-    )
+    let l = c.args.l in
+    record {
+      value = carried_is r l c.reduced-rate.ensures;
+      num_bound = omega (arith, num_most (r.num * l.den) (r.den * l.num) c.reduced-rate.ensures, product_most 1000 1000 c.requires.port_fits.num_most c.requires.den_fits.most);
+      den_bound = omega (arith, den_most (r.num * l.den) (r.den * l.num) c.reduced-rate.ensures, product_most 1000 1000 c.requires.port_fits.den_most c.requires.num_fits.most);
+    }

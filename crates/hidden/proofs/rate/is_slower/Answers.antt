@@ -10,10 +10,10 @@ unfolding slower
 returns-then-s-eq0 c = rw (eq-eqb _ _ c.if-s-eq0.true)
 
 pub overflow_mul-result : goal.overflow_mul-result
-overflow_mul-result c = omega (arith, product_most 1000000 1000 c.requires.num_bound c.requires.den_bound.1.den_most)
+overflow_mul-result c = omega (arith, product_most 1000000 1000 c.requires.num_bound c.requires.port_fits.den_most)
 
 pub overflow_mul-result-2 : goal.overflow_mul-result-2
-overflow_mul-result-2 c = omega (arith, product_most 1000 1000000 c.requires.den_bound.1.num_most c.requires.den_bound.0)
+overflow_mul-result-2 c = omega (arith, product_most 1000 1000000 c.requires.port_fits.num_most c.requires.den_bound)
 
 pub returns : goal.returns
 unfolding slower

@@ -1,6 +1,5 @@
 -- By the tests, in their order.
 use borrow.Author.Tests.{lt-ltb, le-ltb}
-use borrow.Author.Rules.{rules}
 use Rattle.hidden.proofs.rate.limit_leaves.Goals as goal
 
 pub returns-then-rate-gt-PART : goal.returns-then-rate-gt-PART

@@ -1,11 +1,8 @@
 -- What is left, put to the lowest so far, gives the lowest of all.
-use Prim.Native.Nat.{◌-◌}
 use native.Mathlib.Omega.{arith}
-use lib.ListN.{length}
 use Rattle.table.specs.Slices.{links_of}
 use Rattle.hidden.specs.Sides.{picked, picked_length}
-use Rattle.hidden.specs.Limits.{LowestFirst, lowest_first, lowest_on, lowest_all}
-use borrow.Author.Rules.{rules}
+use Rattle.hidden.specs.Limits.{lowest_first, lowest_on, lowest_all}
 use Rattle.hidden.proofs.rate.lowest_sender.Goals as goal
 
 pub loop-i-init : goal.loop-i-init

@@ -1,11 +1,9 @@
 -- What is left, put to the lowest so far, gives the lowest of all.
 use Prim.Native.Nat.{◌-◌}
-use native.Mathlib.Omega.{arith}
 use lib.ListN.{length}
 use Rattle.table.specs.Slices.{links_of}
-use Rattle.hidden.specs.Sides.{picked, picked_length}
-use Rattle.hidden.specs.Limits.{LowestFirst, lowest_first, lowest_on, lowest_all}
-use borrow.Author.Rules.{rules}
+use Rattle.hidden.specs.Sides.{picked}
+use Rattle.hidden.specs.Limits.{LowestFirst}
 use Rattle.hidden.proofs.rate.lowest_sender.Given as goal
 
 abbrev pub invariant-loop-i : goal.invariant-loop-i

@@ -1,7 +1,6 @@
 -- By the tests, in their order.
 use mathlib.Core.Path.{sym, ◌∙◌}
 use borrow.Author.Tests.{eq-eqb, ne_eqb}
-use borrow.Author.Rules.{rules}
 use Rattle.hidden.proofs.sides.bars_port.Goals as goal
 
 pub returns-then-l-eq3 : goal.returns-then-l-eq3

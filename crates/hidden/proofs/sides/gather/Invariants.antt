@@ -1,10 +1,8 @@
 -- Each turn of the loop stores one number, which stays if its link is of that side.
 use Prim.Native.Nat.{◌-◌}
-use native.Mathlib.Omega.{arith}
 use lib.ListN.{length}
 use Rattle.table.specs.Slices.{links_of}
-use Rattle.hidden.specs.Sides.{on_side, GatheredFirst, gathered_none, gathered_on, gathered_all, one_most}
-use borrow.Author.Rules.{rules}
+use Rattle.hidden.specs.Sides.{on_side, GatheredFirst}
 use Rattle.hidden.proofs.sides.gather.Given as goal
 
 abbrev pub invariant-loop-k : goal.invariant-loop-k

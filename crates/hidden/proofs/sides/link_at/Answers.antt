@@ -1,7 +1,6 @@
 -- The number at a place is that of a link.
 use mathlib.Core.Path.{sym}
 use Rattle.hidden.specs.Sides.{picked_at}
-use borrow.Author.Rules.{rules}
 use Rattle.hidden.proofs.sides.link_at.Goals as goal
 
 pub at-requires : goal.at-requires

@@ -1,14 +1,11 @@
 -- Each turn of the loop adds the bytes of one link more.
 use Prim.Native.Nat.{◌-◌}
-use native.Mathlib.Omega.{arith}
 use lib.ListN.{length}
 use Rattle.specification.specs.Table.{no_link}
 use Rattle.specification.specs.Encoding.{encode_link}
 use Rattle.table.specs.Slices.{links_of}
-use Rattle.encoding.specs.EncodingLaws.{links_most}
-use Rattle.encoding.specs.SoFar.{Counted, counted_none, counted_most, counted_on, counted_all}
-use Rattle.hidden.specs.Sides.{picked, picked_length, picked_size}
-use borrow.Author.Rules.{rules}
+use Rattle.encoding.specs.SoFar.{Counted}
+use Rattle.hidden.specs.Sides.{picked}
 use Rattle.hidden.proofs.sides.size_of.Given as goal
 
 abbrev pub invariant-loop-i : goal.invariant-loop-i

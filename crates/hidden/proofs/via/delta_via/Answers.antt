@@ -4,18 +4,17 @@ use native.Mathlib.Nat.{mul-pos}
 use native.Mathlib.Omega.{arith}
 use Rattle.specification.specs.Table.{most_part, most_over}
 use Rattle.hidden.specs.ViaParts.{product_most}
-use borrow.Author.Rules.{rules}
 use Rattle.hidden.proofs.via.delta_via.Goals as goal
 
 pub overflow_mul-x : goal.overflow_mul-x
-overflow_mul-x c = omega (arith, product_most most_over most_over c.requires.link_fits.over_most c.requires.link_fits_2.over_most)
+overflow_mul-x c = omega (arith, product_most most_over most_over c.requires.x_fits.over_most c.requires.y_fits.over_most)
 
 pub overflow_mul-x-2 : goal.overflow_mul-x-2
 overflow_mul-x-2 c =
-    let fits = c.requires in omega (arith, product_most (most_over * most_over) most_part (product_most most_over most_over fits.0.over_most fits.1.over_most) fits.0.num.most)
+    let fits = c.requires in omega (arith, product_most (most_over * most_over) most_part (product_most most_over most_over fits.x_fits.over_most fits.y_fits.over_most) fits.x_fits.num.most)
 
 pub net-requires : goal.net-requires
-net-requires c = let fits = c.requires in mul-pos (mul-pos fits.0.over_least fits.1.over_least) fits.0.num.least
+net-requires c = let fits = c.requires in mul-pos (mul-pos fits.x_fits.over_least fits.y_fits.over_least) fits.x_fits.num.least
 
 pub returns : goal.returns
 returns c = rw (c.sum_via-forward.ensures, c.sum_via-back.ensures) at c.net.ensures

@@ -1,7 +1,6 @@
 -- By the tests, in their order.
 use borrow.Author.Tests.{lt-ltb, le-ltb}
 use Rattle.specification.specs.Hiding.{link_leaves}
-use borrow.Author.Rules.{rules}
 use Rattle.hidden.proofs.via.leaves_range.Goals as goal
 
 pub returns-then-m-gt-PART : goal.returns-then-m-gt-PART

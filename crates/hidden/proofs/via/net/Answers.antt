@@ -1,6 +1,5 @@
 -- The difference in lowest terms; one of both amounts is zero.
 use Rattle.hidden.specs.ViaParts.{net_is}
-use borrow.Author.Rules.{rules}
 use Rattle.hidden.proofs.via.net.Goals as goal
 
 pub returns : goal.returns

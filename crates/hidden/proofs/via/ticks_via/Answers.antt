@@ -1,6 +1,5 @@
 -- The sums of both amounts, and their difference.
 use Rattle.specification.specs.Hiding.{via}
-use borrow.Author.Rules.{rules}
 use Rattle.hidden.proofs.via.ticks_via.Goals as goal
 
 pub returns : goal.returns

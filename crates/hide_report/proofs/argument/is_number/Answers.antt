@@ -4,7 +4,6 @@ use mathlib.Core.Path.{sym, ◌∙◌}
 use native.Mathlib.Omega.{arith}
 use lib.ListN.{length}
 use borrow.Author.Rules.{rules}
-use borrow.Author.Tests.{not-true, not-false}
 use Rattle.hide_report.proofs.argument.Digits.{Passed, passed_none, passed_on, passed_off, passed_all}
 use Rattle.hide_report.proofs.argument.is_number.Goals as goal
 
@@ -14,12 +13,12 @@ loop-i-init c = search (passed_none, rules)
 pub returns-then-not-is_digit : goal.returns-then-not-is_digit
 returns-then-not-is_digit c =
     let call = c.is_digit in
-    sym (passed_off c.loop-i.invariant (omega arith) (sym call.ensures ∙ not-true call.result c.if-not-is_digit.true))
+    sym (passed_off c.loop-i.invariant (omega arith) (sym call.ensures ∙ c.if-not-is_digit.true))
 
 pub loop-i-preserved : goal.loop-i-preserved
 loop-i-preserved c =
     let call = c.is_digit in
-    passed_on c.loop-i.invariant (omega arith) (sym call.ensures ∙ not-false call.result c.if-not-is_digit.false)
+    passed_on c.loop-i.invariant (omega arith) (sym call.ensures ∙ c.if-not-is_digit.false)
 
 pub returns : goal.returns
 returns c = passed_all c.loop-i.invariant (omega arith)

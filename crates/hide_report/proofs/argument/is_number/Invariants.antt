@@ -4,7 +4,6 @@ use mathlib.Core.Path.{sym, ◌∙◌}
 use native.Mathlib.Omega.{arith}
 use lib.ListN.{length}
 use borrow.Author.Rules.{rules}
-use borrow.Author.Tests.{not-true, not-false}
 use Rattle.hide_report.proofs.argument.Digits.{Passed, passed_none, passed_on, passed_off, passed_all}
 use Rattle.hide_report.proofs.argument.is_number.Given as goal
 
