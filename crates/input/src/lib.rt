@@ -1,7 +1,8 @@
 // Reading an input into a buffer, and whether it was read whole.
 #![tactic(auto)]
 
-ghost use Rattle.std.specs.Prelude.{◌≡◌, true, ◌+◌, ◌^◌, ◌≤◌, ◌<◌, length};
+ghost use Rattle.std.specs.Prelude.{◌≡◌, true, false, ◌+◌, ◌-◌, ◌^◌, ◌≤◌, ◌<◌, length, take, drop};
+ghost use Rattle.std.specs.Io.KnownBytes.{Consumes, IsAtEnd};
 ghost use Rattle.input.specs.Input.{read_whole, read_result, AfterRead, Onward};
 
 use std::fs::File;
@@ -44,15 +45,24 @@ fn read_once<R: Read>(reader: &mut R, buf: &mut [u8], count: usize) -> Input
     requires { count ≤ length buf.old }
     ensures onward { Onward count (length buf.old) result }
     ensures buf_len_unchanged { length buf.new ≡ length buf.old }
+    ensures front { take count buf.new ≡ take count buf.old }
+    ensures bytes { Consumes (R.remaining reader.old) (R.remaining reader.new)
+        (take (result.count - count) (drop count buf.new)) }
+    ensures end { count < length buf.old → result.failed ≡ false → result.more ≡ false
+        → IsAtEnd (R.remaining reader.new) }
 {
     let got = reader.read(&mut buf[count..]);
     after_read(count, got, &buf[count..])
 }
 
-// Reads until the buffer is full, the input ends or a read fails. `read_exact` does not say how many bytes there were.
+// Reads until the buffer is full, the input ends or a read fails: what was read stands at the front. `read_exact` does not say how much that is.
 pub fn fill<R: Read>(reader: &mut R, buf: &mut [u8]) -> Input
     ensures count_in_bounds { result.count ≤ length buf.new }
     ensures buf_len_unchanged { length buf.new ≡ length buf.old }
+    ensures bytes { Consumes (R.remaining reader.old) (R.remaining reader.new)
+        (take result.count buf.new) }
+    ensures end { result.failed ≡ false → result.more ≡ false → IsAtEnd (R.remaining reader.new) }
+    ensures full { result.more ≡ true → result.count ≡ length buf.new }
 {
     let mut input = Input {
         count: 0,

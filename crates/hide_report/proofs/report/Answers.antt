@@ -3,7 +3,6 @@ use mathlib.Core.Path.{sym, ◌∙◌}
 use mathlib.Core.Bool.{true, false}
 use native.Mathlib.Omega.{arith}
 use lib.ListN.{length-take}
-use borrow.Author.Rules.{rules}
 use Rattle.hide_report.proofs.Reported.{whole_is, reported_no_number, reported_not_whole, reported_table}
 use Rattle.hide_report.proofs.report.Goals as goal
 

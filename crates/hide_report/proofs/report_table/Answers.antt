@@ -1,5 +1,4 @@
 -- What is hidden, and its line.
-use borrow.Author.Rules.{rules}
 use Rattle.hide_report.proofs.Reported.{table_reported}
 use Rattle.hide_report.proofs.report_table.Goals as goal
 

@@ -1,10 +1,8 @@
 -- Each digit in turn.
-use Prim.Native.Nat.{◌-◌}
 use mathlib.Core.Path.{sym, ◌∙◌}
 use native.Mathlib.Omega.{arith}
-use lib.ListN.{length}
 use borrow.Author.Rules.{rules}
-use Rattle.hide_report.proofs.argument.Digits.{Passed, passed_none, passed_on, passed_off, passed_all}
+use Rattle.hide_report.proofs.argument.Digits.{passed_none, passed_on, passed_off, passed_all}
 use Rattle.hide_report.proofs.argument.is_number.Goals as goal
 
 pub loop-i-init : goal.loop-i-init

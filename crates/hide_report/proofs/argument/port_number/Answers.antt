@@ -1,9 +1,6 @@
 -- Each digit in turn.
-use Prim.Native.Nat.{◌-◌}
 use native.Mathlib.Omega.{arith}
-use lib.ListN.{length}
-use borrow.Author.Rules.{rules}
-use Rattle.hide_report.proofs.argument.Digits.{Spelled, spelled_none, spelled_digit, spelled_on, spelled_all}
+use Rattle.hide_report.proofs.argument.Digits.{spelled_none, spelled_digit, spelled_on, spelled_all}
 use Rattle.hide_report.proofs.argument.port_number.Goals as goal
 
 pub loop-i-init : goal.loop-i-init

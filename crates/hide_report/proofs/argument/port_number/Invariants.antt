@@ -1,9 +1,7 @@
 -- Each digit in turn.
 use Prim.Native.Nat.{◌-◌}
-use native.Mathlib.Omega.{arith}
 use lib.ListN.{length}
-use borrow.Author.Rules.{rules}
-use Rattle.hide_report.proofs.argument.Digits.{Spelled, spelled_none, spelled_digit, spelled_on, spelled_all}
+use Rattle.hide_report.proofs.argument.Digits.{Spelled}
 use Rattle.hide_report.proofs.argument.port_number.Given as goal
 
 abbrev pub invariant-loop-i : goal.invariant-loop-i

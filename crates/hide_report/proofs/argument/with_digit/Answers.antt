@@ -1,5 +1,4 @@
 -- Within the limit, or at it.
-use borrow.Author.Rules.{rules}
 use Rattle.hide_report.proofs.argument.Digits.{digit_least}
 use Rattle.hide_report.proofs.argument.with_digit.Goals as goal
 
