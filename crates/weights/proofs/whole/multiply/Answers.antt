@@ -13,10 +13,10 @@ pub overflow_mul-w : goal.overflow_mul-w
 overflow_mul-w c = omega (arith, product_small c.requires c.loop-p.invariant c.loop-p-test.true c.factor_of.ensures)
 
 pub returns-then-w-gt-WEIGHT : goal.returns-then-w-gt-WEIGHT
-returns-then-w-gt-WEIGHT c = multiplied_over c.requires c.loop-p.invariant c.loop-p-test.true c.factor_of.ensures c.if-w-gt-WEIGHT.true
+returns-then-w-gt-WEIGHT c = multiplied_over c.requires c.loop-p.invariant c.loop-p-test.true c.factor_of.ensures (omega arith)
 
 pub loop-p-preserved : goal.loop-p-preserved
-loop-p-preserved c = multiplied_on c.requires c.loop-p.invariant c.loop-p-test.true c.factor_of.ensures c.if-w-gt-WEIGHT.false
+loop-p-preserved c = multiplied_on c.requires c.loop-p.invariant c.loop-p-test.true c.factor_of.ensures (omega arith)
 
 pub returns : goal.returns
 returns c = multiplied_all c.requires c.loop-p.invariant c.loop-p-test.false
