@@ -9,6 +9,7 @@ use crate::row::Row;
 use crate::wide;
 
 // x times p to the power e, or 10,001 where that is less.
+#[tactic(auto, using(crate::proofs::product::Bounded::powered_past))]
 fn times_power(x: u64, p: u64, e: u16) -> u64
     requires { Factors x p }
     ensures { result ≡ min (x * p ^ e) 10001 }

@@ -20,6 +20,7 @@ impl Fraction {
     pub const ONE: Fraction = Fraction { num: 1, den: 1 };
 
     // num / den in lowest terms. A division takes longer than all else here, so 0, 1 and whole numbers take none, and what is in lowest terms already is not divided.
+    #[tactic(auto, using(crate::specs::Lowest::lowest_already))]
     pub fn reduced(num: u64, den: u64) -> Fraction
         requires { 0 < den }
         ensures { result ≡ lowest_terms num den }

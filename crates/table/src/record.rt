@@ -83,6 +83,7 @@ fn amount_faulty(most: u64, forward: u64, back: u64) -> bool
 }
 
 // A number of events divided by `over`.
+#[tactic(auto, unfolding(specification::specs::Reading::events_faulty))]
 fn events_faulty(events: Events, over: u64) -> bool
     ensures { result ≡ events_faulty events over }
 {
@@ -142,6 +143,7 @@ fn link_of(s: &[u8], at: usize, ticks: Ticks, events: Events, over: u32, kind: u
 }
 
 // A port record whose length is right or not, at its place.
+#[tactic(auto, unfolding(specification::specs::Reading::port_at))]
 fn read_port(s: &[u8], at: usize, n: usize, before: Before) -> Read
     requires { at + 2 + n ≤ length s.now }
     ensures { result ≡ port_at s.now at n before }
@@ -203,6 +205,7 @@ fn is_of(n: usize, kind: u64, length: usize, of: u64) -> bool
 }
 
 // The number of a record that is no port and has not the length of its kind.
+#[tactic(auto, unfolding(crate::specs::Kinds::kind_fault))]
 fn kind_fault(kind: u64) -> u64
     ensures { result ≡ kind_fault kind }
 {

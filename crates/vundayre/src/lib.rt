@@ -18,24 +18,14 @@ pub fn vundayre_analyse(table: &[u8], answer: &mut [u8]) -> Outcome
     analysis::analyse(table, answer)
 }
 
-pub fn vundayre_join(
-    first: &[u8],
-    second: &[u8],
-    added: &[u8],
-    out: &mut [u8],
-) -> JoinOutcome
+pub fn vundayre_join(first: &[u8], second: &[u8], added: &[u8], out: &mut [u8]) -> JoinOutcome
     ensures join_returned { JoinReturned (join_into first.now second.now added.now (length out.old)) out.old out.new result }
     ensures demands { JoinDemanded first.now second.now added.now out.old out.new result }
 {
     joins::join(first, second, added, out)
 }
 
-pub fn vundayre_preview(
-    first: &[u8],
-    second: &[u8],
-    added: &[u8],
-    answer: &mut [u8],
-) -> JoinOutcome
+pub fn vundayre_preview(first: &[u8], second: &[u8], added: &[u8], answer: &mut [u8]) -> JoinOutcome
     ensures previewed { Previewed first.now second.now added.now answer.old answer.new result }
     ensures demands { PreviewDemanded first.now second.now added.now answer.old answer.new result }
 {

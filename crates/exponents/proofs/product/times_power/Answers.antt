@@ -1,5 +1,5 @@
 -- The product so far times what is left of the power, up to the bound.
-use Rattle.exponents.proofs.product.Bounded.{powered_none, powered_room, powered_on, powered_past}
+use Rattle.exponents.proofs.product.Bounded.{powered_none, powered_room, powered_on}
 use borrow.Author.Tests.{leb-true}
 use borrow.Author.Rules.{rules}
 use Rattle.exponents.proofs.product.times_power.Goals as goal
@@ -11,7 +11,4 @@ pub overflow_mul-product : goal.overflow_mul-product
 overflow_mul-product c = record { fits = search (powered_room, leb-true, rules) }
 
 pub loop-left-preserved : goal.loop-left-preserved
-loop-left-preserved c = search (powered_on, leb-true, rules)
-
-pub returns-else-product-le10000-2 : goal.returns-else-product-le10000-2
-returns-else-product-le10000-2 c = search (powered_past, rules)
+loop-left-preserved c = search (powered_on, rules)

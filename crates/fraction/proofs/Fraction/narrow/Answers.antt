@@ -1,7 +1,6 @@
 -- Both tests hold where it returns true.
 use mathlib.Core.Path.{sym}
 use mathlib.Core.Bool.{true≢false}
-use borrow.Author.Rules.{rules}
 use Rattle.fraction.proofs.Fraction.narrow.Goals as goal
 
 pub returns : goal.returns

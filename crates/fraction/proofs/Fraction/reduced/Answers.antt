@@ -1,6 +1,4 @@
 -- 0 and 1 are the constants; parts without a common divisor stay; others are divided by their greatest common divisor, which is above zero.
-use borrow.Author.Rules.{rules}
-use mathlib.Core.Path.{◌∙◌, sym}
 use Rattle.numbers.specs.Gcd.{gcd_positive, gcd_one}
 use Rattle.fraction.specs.Lowest.{lowest_terms, lowest_already, lowest_zero, lowest_one}
 use Rattle.fraction.proofs.Fraction.reduced.Goals as goal
@@ -13,9 +11,6 @@ returns-then-num-den c = rw (c.if-num-den.true, lowest_one c.requires)
 
 pub returns-then-den-eq1 : goal.returns-then-den-eq1
 returns-then-den-eq1 c = rw c.if-den-eq1.true (lowest_already (gcd_one _))
-
-pub returns-then-g-eq1 : goal.returns-then-g-eq1
-returns-then-g-eq1 c = lowest_already (sym c.greatest_common_divisor-g.ensures ∙ c.if-g-eq1.true)
 
 pub nonzero_div-result : goal.nonzero_div-result
 nonzero_div-result c = rw c.greatest_common_divisor-g.ensures (gcd_positive _ _ c.requires)

@@ -1,10 +1,6 @@
 -- The greatest common divisor of the two numbers stays, and the second falls.
-use mathlib.Core.Path.{◌≡◌, sym, ap, ◌∙◌}
-use native.Mathlib.Omega.{arith}
-use native.Mathlib.Nat.{mod-lt}
-use borrow.Author.Rules.{rules}
+use mathlib.Core.Path.{◌≡◌}
 use Rattle.numbers.specs.Divisors.{gcd}
-use Rattle.numbers.specs.Gcd.{gcd_zero, gcd_rest}
 use Rattle.fraction.proofs.euclid.greatest_common_divisor.Given as goal
 
 abbrev pub invariant-loop-y : goal.invariant-loop-y

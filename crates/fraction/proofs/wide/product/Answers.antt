@@ -1,7 +1,6 @@
 -- No column overflows, and the columns make up the product.
 use mathlib.Core.Path.{refl}
 use native.Mathlib.Omega.{arith}
-use borrow.Author.Rules.{rules}
 use Rattle.fraction.specs.Wide.{value}
 use Rattle.fraction.proofs.wide.Columns.{digits, with_carry, with_carries, columns}
 use Rattle.fraction.proofs.wide.product.Goals as goal
