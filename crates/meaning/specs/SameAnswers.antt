@@ -4,7 +4,7 @@ use Rattle.std.specs.Prelude.{◌≡◌, List, [], ◌∷◌, map, length, get_o
 use Rattle.std.proofs.Math.Path.{refl}
 use Rattle.std.proofs.Common.{ap, mul-pos, le_refl, arith}
 use Rattle.std.proofs.Math.Nat.{eq_of_mul-eq-mul_right}
-use Rattle.specification.specs.Table.{Table, port_count, link_count, no_port, link, IsLink, from, δ°}
+use Rattle.specification.specs.Table.{Table, port_count, link_count, no_port, IsLink, from, δ°}
 use Rattle.specification.specs.Ratios.{weighed⁺, weighed⁻, AllWhole}
 use Rattle.specification.specs.Periods.{Graph, CycleLimit, Blocks, BlocksAboveZero, HasPeriod, PortIn, ConnectionIn, graph_in}
 use Rattle.specification.specs.Answers.{
