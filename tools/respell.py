@@ -2,6 +2,7 @@
 """Respells this repository's own definitions, lemmas and fields: words in snake case, a prime as an apostrophe. Run once, at the top, after the toolchain's port.py.
 
 A name that the checker makes from the code keeps its spelling, as does a name of the library. Strings stay as they are.
+With --signs only names that begin with a sign are turned: these came in a second run.
 """
 import os
 import re
@@ -62,13 +63,23 @@ def own(path):
 CRATES = {d for d in os.listdir("crates")} if os.path.isdir("crates") else set()
 
 
+def sign(w):
+    """A name that begins with a sign, with a word behind it."""
+    return re.match(r"[\u00b7\u2200-\u22ff]", w) and re.search(r"-\w", w.replace("_", ""))
+
+
 def odd(w):
+    if sign(w):
+        return True
     return w not in KEPT and re.match(r"[^\W\d]", w) and ("-" in w or "\u2032" in w or (w[0].islower() and re.search(r"[a-z][A-Z]", w)))
 
 
 def respelt(w):
     if w in APART:
         return APART[w]
+    if sign(w):
+        # a dash stays between two signs, which are two names
+        return re.sub(r"-(?=\w)|(?<=\w)-", "_", w)
     w = w.replace("\u2032", "'").replace("-", "_")
     if re.match(r"[A-Z]_", w):
         w = w[0].lower() + w[1:]
@@ -104,6 +115,8 @@ def main():
                     everywhere.add(w)
     library_words = set().union(*(imported(t) for p, t in texts.items() if p.endswith(".antt")))
     defined |= everywhere - library_words
+    if "--signs" in sys.argv:
+        defined = {w for w in defined if sign(w)}
     turned = {w: respelt(w) for w in defined}
     by = {}
     for w, n in turned.items():

@@ -4,7 +4,7 @@ use Rattle.std.proofs.Common.{sym, ap, ◌∙◌, ⊎_elim, pos_of_ne-zero, mul-
 use Rattle.std.proofs.Math.Nat.{lt-div-mul-add, div-add-mod}
 use Rattle.std.proofs.Math.Decide.{ℕ_discrete}
 use Rattle.numbers.specs.Rationals.{Rational, ◌≼◌, ◌≺◌, ◌·◌, whole}
-use Rattle.numbers.specs.RationalLaws.{≼_trans, ≼-≺-trans, ≺-≼-trans, ≼-or-≺, ≼-not-≺, ≺-≼, ≈-≼, ≈-sym, ≈-trans, ·-zero, factor_≼, factor_≺, factor_≈}
+use Rattle.numbers.specs.RationalLaws.{≼_trans, ≼-≺_trans, ≺-≼_trans, ≼_or_≺, ≼_not_≺, ≺-≼, ≈-≼, ≈_sym, ≈_trans, ·_zero, factor_≼, factor_≺, factor_≈}
 use Rattle.specification.specs.declared.Events.{Events}
 use Rattle.specification.specs.declared.Needed.{Needed}
 use Rattle.specification.specs.declared.Needed.TheVariants.{Nothing, Exact, PartOver}
@@ -21,35 +21,35 @@ same_events e f h k same = ap (λ (n : ℕ). amounts n e.1) same ∙ ap (amounts
 module _ {period : Rational} (some : whole 0 ≺ period) (needed : Rational) where
   -- ---- the value of a case is the fewest events
   pub case_enough : (x : Needed) → IsNeeded needed period x → needed ≼ size_of x · period
-  case_enough Nothing h = ≼_trans h.holds (≈-≼ (≈-sym (·-zero period)))
+  case_enough Nothing h = ≼_trans h.holds (≈-≼ (≈_sym (·_zero period)))
   case_enough (Exact e) h = ≈-≼ h.exact
   case_enough (PartOver e) h = ≺-≼ h.less
 
   pub case_least : (x : Needed) → IsNeeded needed period x → (n : ℕ) → needed ≼ n · period → size_of x ≤ n
   case_least Nothing h n enough = omega arith
-  case_least (Exact e) h n enough = factor_≼ some e.0 n (≼_trans (≈-≼ (≈-sym h.exact)) enough)
-  case_least (PartOver e) h n enough = omega (arith, factor_≺ some e.0 n (≺-≼-trans h.part enough))
+  case_least (Exact e) h n enough = factor_≼ some e.0 n (≼_trans (≈-≼ (≈_sym h.exact)) enough)
+  case_least (PartOver e) h n enough = omega (arith, factor_≺ some e.0 n (≺-≼_trans h.part enough))
 
   -- ---- no two cases
   not_both : {e f : Events} → ExactEvents needed period e → ¬ EventsAndPart needed period f
   not_both {e} {f} h k = omega (
     arith,
-    factor_≺ some f.0 e.0 (≺-≼-trans k.part (≈-≼ h.exact)),
-    factor_≺ some e.0 (f.0 + 1) (≼-≺-trans (≈-≼ (≈-sym h.exact)) k.less),
+    factor_≺ some f.0 e.0 (≺-≼_trans k.part (≈-≼ h.exact)),
+    factor_≺ some e.0 (f.0 + 1) (≼-≺_trans (≈-≼ (≈_sym h.exact)) k.less),
   )
 
   only_one : (x y : Needed) → IsNeeded needed period x → IsNeeded needed period y → x ≡ y
   only_one Nothing Nothing h k = refl
-  only_one Nothing (Exact f) h k = absurd (≼-not-≺ h.holds k.above_zero)
-  only_one Nothing (PartOver f) h k = absurd (≼-not-≺ h.holds k.above_zero)
-  only_one (Exact e) Nothing h k = absurd (≼-not-≺ k.holds h.above_zero)
-  only_one (Exact e) (Exact f) h k = ap Exact (same_events e f h.none_back k.none_back (factor_≈ some (≈-trans (≈-sym h.exact) k.exact)))
+  only_one Nothing (Exact f) h k = absurd (≼_not_≺ h.holds k.above_zero)
+  only_one Nothing (PartOver f) h k = absurd (≼_not_≺ h.holds k.above_zero)
+  only_one (Exact e) Nothing h k = absurd (≼_not_≺ k.holds h.above_zero)
+  only_one (Exact e) (Exact f) h k = ap Exact (same_events e f h.none_back k.none_back (factor_≈ some (≈_trans (≈_sym h.exact) k.exact)))
   only_one (Exact e) (PartOver f) h k = absurd (not_both h k)
-  only_one (PartOver e) Nothing h k = absurd (≼-not-≺ k.holds h.above_zero)
+  only_one (PartOver e) Nothing h k = absurd (≼_not_≺ k.holds h.above_zero)
   only_one (PartOver e) (Exact f) h k = absurd (not_both k h)
   only_one (PartOver e) (PartOver f) h k =
-      let low = factor_≺ some e.0 (f.0 + 1) (≼-≺-trans (≺-≼ h.part) k.less) in
-      let high = factor_≺ some f.0 (e.0 + 1) (≼-≺-trans (≺-≼ k.part) h.less) in
+      let low = factor_≺ some e.0 (f.0 + 1) (≼-≺_trans (≺-≼ h.part) k.less) in
+      let high = factor_≺ some f.0 (e.0 + 1) (≼-≺_trans (≺-≼ k.part) h.less) in
       ap PartOver (same_events e f h.none_back k.none_back (omega (arith, low, high)))
 
   -- ---- which case it is
@@ -101,4 +101,4 @@ module _ {period : Rational} (some : whole 0 ≺ period) (needed : Rational) whe
   exactly_one = ⊎_elim
       (λ (h : needed ≼ whole 0). one Nothing (record { holds = h }))
       (λ (h : whole 0 ≺ needed). divided h (ℕ_discrete (delay_over % period_over) 0))
-      (≼-or-≺ needed (whole 0))
+      (≼_or_≺ needed (whole 0))

@@ -3,7 +3,7 @@ use Rattle.std.specs.Prelude.{ℕ, suc, ◌+◌, ◌*◌, ◌-◌, ◌/◌, ◌�
 use Rattle.std.proofs.Common.{ap, inl, inr, ⊎_elim, div-mul-le_self, mul-pos, mul-le-mul_right, mul-lt-mul_of_pos_right, lt_of_mul-lt-mul_right, le_of_mul-le-mul_right, arith}
 use Rattle.std.proofs.Math.Nat.{lt-mul-div-succ}
 use Rattle.numbers.specs.Rationals.{Rational, ◌≼◌, ◌⊕◌, whole, share, ratio}
-use Rattle.numbers.specs.RationalLaws.{≼_trans, ≈-≼, ≈-sym, ⊕-right-≼, as_share}
+use Rattle.numbers.specs.RationalLaws.{≼_trans, ≈-≼, ≈_sym, ⊕_right_≼, as_share}
 use Rattle.specification.specs.Periods.{Graph, gain, loss, Meets, Serves, PortIn, ConnectionIn, graph_in}
 use Rattle.table.specs.WellFormed.{WellFormed}
 use Rattle.specification.specs.Table.{Table, IsPort, IsLink, from, to, den, IsBuffer}
@@ -62,7 +62,7 @@ rounded_≼ : {x y : Rational} {b : ℕ} (over : 0 < b) (m n : ℕ) → whole 0 
 rounded_≼ {x} {y} {b} over m n i j h =
     let x' = as_share x i in
     let y' = as_share y j in
-    let h' = ≼_trans (⊕-right-≼ (ratio m n b over) (≈-≼ (≈-sym x'))) (≼_trans h (≈-≼ y')) in
+    let h' = ≼_trans (⊕_right_≼ (ratio m n b over) (≈-≼ (≈_sym x'))) (≼_trans h (≈-≼ y')) in
     let less : rounded_down b x + m < suc (rounded_down b y + n) = lt_of_mul-lt-mul_right (x.over * y.over) (omega (
       arith,
       h'.holds,
@@ -166,7 +166,7 @@ module _ {t : Table} (formed : WellFormed t) where
           let low = (h.starts p i).least (λ q. rounded_down (r.b p) (T q)) (rounded_meets p i) p (own_component p i) in
           let less : start_of r p ≼ share ((T p).plus - (T p).minus) (T p).over (T p).positive =
           omega (arith, mul-le-mul_right (T p).over low, rounded_below (r.b p) (T p)) in
-          ≼_trans less (≈-≼ (≈-sym (as_share (T p) (not_below p i))))
+          ≼_trans less (≈-≼ (≈_sym (as_share (T p) (not_below p i))))
 
     -- ---- and fewest events
     -- the rule over one denominator, which sender and receiver share

@@ -5,7 +5,7 @@ use Rattle.std.proofs.Math.Decide.{ℕ_discrete, dec_lt}
 use Rattle.std.proofs.Math.Nat.{mul-pos, mul-le-mul_right, mul-lt-mul_of_pos_right}
 use Rattle.std.proofs.Common.{arith}
 use Rattle.numbers.specs.Rationals.{Rational, ◌≼◌, ◌≺◌, ◌≈◌, ◌⊕◌, ◌·◌, share, ratio}
-use Rattle.numbers.specs.RationalLaws.{≼_trans, ≈-≼, ≈-refl, ≺-≼-trans}
+use Rattle.numbers.specs.RationalLaws.{≼_trans, ≈-≼, ≈_refl, ≺-≼_trans}
 use Rattle.specification.specs.Periods.{gain, loss, Possible, HasPeriod, PortIn, ConnectionIn, graph_in}
 use Rattle.table.specs.WellFormed.{WellFormed}
 use Rattle.specification.specs.Table.{Table, port_count, IsPort, IsLink, from, to, num, den}
@@ -77,7 +77,7 @@ module _ {t : Table} {component : ℕ → ℕ} (formed : WellFormed t) (componen
 
     periods_over : (c : ℕ) → PeriodsOver t w c own_period (periods c).a (periods c).b (possible_at c).over
     unfolding period_at
-    periods_over c = record { is = λ q m. rw (in_own m) (≈-refl _) }
+    periods_over c = record { is = λ q m. rw (in_own m) (≈_refl _) }
 
     starts_meet : (c k : ℕ) → ConnectionIn t c k
         → own_start (from t k)
@@ -150,7 +150,7 @@ module _ {t : Table} (formed : WellFormed t) (n : NoLeastPeriod t) where
       let less = replaced_less n.w m.possible periods_of v.a v.b (n.component n.c) (ℕ_discrete (n.component n.c) n.c) own m.less in
       record {
         other = periods_solution formed n.components prop_of whole_of periods;
-        less = ≺-≼-trans (solution_less formed n.components prop_of whole_of periods v.a v.b v.over i.a_port less)
+        less = ≺-≼_trans (solution_less formed n.components prop_of whole_of periods v.a v.b v.over i.a_port less)
             (≈-≼ (v.periods.is n.c (record { a_port = i.a_port; component = i.lowest })));
       }
 

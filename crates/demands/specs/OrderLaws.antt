@@ -4,7 +4,7 @@ use Rattle.std.proofs.Common.{sym, ap, subst, ◌∙◌, ⊎_elim, le_antisymm, 
 use Rattle.std.proofs.Math.Decide.{ℕ_discrete}
 use Rattle.std.proofs.Math.Nat.{eq_of_mul-eq-mul_left, eq_of_mul-eq-mul_right}
 use Rattle.numbers.specs.Rationals.{Rational, ◌≼◌, ◌≈◌, ◌⊕◌, ◌·◌, ◌⊗◌, signed, ratio, whole}
-use Rattle.numbers.specs.RationalLaws.{≼_trans, ≼-not-≺, ≼-antisym, ≈-≼, ≈-sym}
+use Rattle.numbers.specs.RationalLaws.{≼_trans, ≼_not_≺, ≼_antisym, ≈-≼, ≈_sym}
 use Rattle.numbers.specs.Divisors.{Divides}
 use Rattle.numbers.specs.Gcd.{coprime_unique}
 use Rattle.numbers.specs.ListLaws.{lt_or_le}
@@ -141,7 +141,7 @@ starts_≈ : {t : Table} {P Q S : ℕ → Rational} → WellFormed t → ((p : �
 starts_≈ {t} {S = S} formed same h = record {
   holds = λ k l some.
       ≼_trans
-      (≈-≼ (added_≈ t k some (S (from t k)) (≈-sym (same (from t k) (from_port formed k l.a_link)))))
+      (≈-≼ (added_≈ t k some (S (from t k)) (≈_sym (same (from t k) (from_port formed k l.a_link)))))
       (h.holds k l some);
 }
 
@@ -162,14 +162,14 @@ period_least o h h' p i = (least_of o.one h).least_periods (other_solution o (so
 
 same_periods : {t u : Table} {r r' : Timing} → TwoOrders t u → Consistent t r → Consistent u r' → (p : ℕ) → IsPort t p
     → period_of r p ≈ period_of r' p
-same_periods o h h' p i = ≼-antisym (period_least o h h' p i) (period_least (exchange o) h' h p (port_there o.same i))
+same_periods o h h' p i = ≼_antisym (period_least o h h' p i) (period_least (exchange o) h' h p (port_there o.same i))
 
 start_least : {t u : Table} {r r' : Timing} → TwoOrders t u → Consistent t r → Consistent u r' → (p : ℕ) → IsPort t p
     → start_of r p ≼ start_of r' p
 unfolding solution_of
 start_least {r' = r'} o h h' p i =
     (least_of o.one h).least_starts (start_of r') (λ q j. omega arith)
-    (starts_≈ o.one (λ q j. ≈-sym (same_periods o h h' q j)) (other_solution o (solution_of o.other h')).meets.starts) p i
+    (starts_≈ o.one (λ q j. ≈_sym (same_periods o h h' q j)) (other_solution o (solution_of o.other h')).meets.starts) p i
 
 pub same_port : {t u : Table} {r r' : Timing} → TwoOrders t u → Consistent t r → Consistent u r' → (p : ℕ) → IsPort t p → SamePort r r' p
 same_port {r = r} {r' = r'} o h h' p i =
@@ -220,7 +220,7 @@ unfolding solution_of
 not_without_least o n h =
     let l = no_least_solution o.one n in
     let s = l.smaller (other_solution o (solution_of o.other h)) in
-    ≼-not-≺ ((least_of o.other h).least_periods (other_solution (exchange o) s.other) l.p (port_there o.same l.a_port)) s.less
+    ≼_not_≺ ((least_of o.other h).least_periods (other_solution (exchange o) s.other) l.p (port_there o.same l.a_port)) s.less
 
 -- ---- two answers
 -- the pairs of answers to two tables: both of one kind

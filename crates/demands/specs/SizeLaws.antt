@@ -2,7 +2,7 @@
 use Rattle.std.specs.Prelude.{ℕ, ◌*◌, ◌≤◌, ◌<◌, refl, ◌↔◌}
 use Rattle.std.proofs.Common.{⊎_elim, le_antisymm, mul-pos, mul-le-mul_right, arith}
 use Rattle.numbers.specs.Rationals.{Rational, ◌≼◌, ◌≺◌, ◌≈◌, ◌⊕◌, ◌⊖◌, ◌⊗◌, ◌·◌, whole, ratio, share}
-use Rattle.numbers.specs.RationalLaws.{≼_refl, ≼_trans, ≼-or-≺, ≺-≼, ≈-≼, ≈-sym, ⊖-≼, ·-zero}
+use Rattle.numbers.specs.RationalLaws.{≼_refl, ≼_trans, ≼_or_≺, ≺-≼, ≈-≼, ≈_sym, ⊖-≼, ·_zero}
 use Rattle.table.specs.WellFormed.{WellFormed}
 use Rattle.specification.specs.Table.{Table, IsBuffer, from}
 use Rattle.specification.specs.Answers.{Timing, period_of, start_of, consistent, Consistent}
@@ -80,7 +80,7 @@ module _ {t : Table} {r : Timing} {k : ℕ} (formed : WellFormed t) (h : Consist
     };
     rounded = record {
       enough = omega arith;
-      least = λ m e. let no_size : r.size k ≤ 0 = size_least 0 (≼_trans none (≈-≼ (≈-sym (·-zero (period_of r sender))))) in omega arith;
+      least = λ m e. let no_size : r.size k ≤ 0 = size_least 0 (≼_trans none (≈-≼ (≈_sym (·_zero (period_of r sender))))) in omega arith;
     };
   }
 
@@ -110,4 +110,4 @@ module _ {t : Table} {r : Timing} {k : ℕ} (formed : WellFormed t) (h : Consist
   size_rounded_up = ⊎_elim
       (λ (none : needed_delay t r k ≼ whole 0). rounded_nothing none)
       (λ (above : whole 0 ≺ needed_delay t r k). rounded_above above)
-      (≼-or-≺ (needed_delay t r k) (whole 0))
+      (≼_or_≺ (needed_delay t r k) (whole 0))

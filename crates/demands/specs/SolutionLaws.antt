@@ -2,7 +2,7 @@
 use Rattle.std.specs.Prelude.{ℕ, ◌*◌, ◌-◌, ◌≤◌, ◌<◌, Bool, true, false, cond, ◌≡◌, refl, List, ◌∷◌}
 use Rattle.std.proofs.Common.{ap, mul-pos, le_of_mul-le-mul_right, arith}
 use Rattle.numbers.specs.Rationals.{Rational, ◌≼◌, ◌≈◌, ◌⊕◌, ◌⊗◌, ◌·◌, share, ratio}
-use Rattle.numbers.specs.RationalLaws.{≼_trans, ≺-≼, ≈-≼, ≈-sym, ≈-trans, ⊕-right-≼, ⊕-≈, ≈-refl, ⊗-left-≈, ·-≼, ·-≈, ·-·, ·-cancel-≈, factor_≈, as_share, ≈-scaled}
+use Rattle.numbers.specs.RationalLaws.{≼_trans, ≺-≼, ≈-≼, ≈_sym, ≈_trans, ⊕_right_≼, ⊕-≈, ≈_refl, ⊗_left_≈, ·-≼, ·-≈, ·-·, ·_cancel_≈, factor_≈, as_share, ≈_scaled}
 use Rattle.numbers.specs.Lists.{sum}
 use Rattle.specification.specs.Periods.{Graph, Walk, stop, step, gain, loss, Serves, PortIn, ConnectionIn, graph_in}
 use Rattle.table.specs.WellFormed.{WellFormed}
@@ -22,20 +22,20 @@ swap m n x = omega arith
 module _ {t : Table} {P : ℕ → Rational} (ratios : Ratios t P) where
   step_ratio : (k : ℕ) (b : Bool) → IsLink t k
       → cond b (den t k) (num t k) · P (cond b (from t k) (to t k)) ≈ cond b (num t k) (den t k) · P (cond b (to t k) (from t k))
-  step_ratio k true i = ≈-sym (ratios.holds k i)
+  step_ratio k true i = ≈_sym (ratios.holds k i)
   step_ratio k false i = ratios.holds k i
 
   -- periods that meet (1) stand to each other as the ratio of a way between their ports
   way_ratio : {p q : ℕ} {path : List Step} → Way t p q path → above t path · P q ≈ below t path · P p
-  way_ratio stay = ≈-refl _
+  way_ratio stay = ≈_refl _
   way_ratio (walk {q = q} {path = path} s i v) =
       let m : ℕ = cond s.against (den t s.number) (num t s.number) in
       let n : ℕ = cond s.against (num t s.number) (den t s.number) in
-      ≈-trans (≈-sym (·-· m (above t path) (P q)))
-      (≈-trans (·-≈ m (way_ratio v))
-      (≈-trans (swap m (below t path) (P (comes t s)))
-      (≈-trans (·-≈ (below t path) (step_ratio s.number s.against i))
-      (≈-trans (swap (below t path) n (P (leaves t s))) (·-· n (below t path) (P (leaves t s)))))))
+      ≈_trans (≈_sym (·-· m (above t path) (P q)))
+      (≈_trans (·-≈ m (way_ratio v))
+      (≈_trans (swap m (below t path) (P (comes t s)))
+      (≈_trans (·-≈ (below t path) (step_ratio s.number s.against i))
+      (≈_trans (swap (below t path) n (P (leaves t s))) (·-· n (below t path) (P (leaves t s)))))))
 
   -- and as the weights
   joined_ratio : {w : ℕ → ℕ} {p q : ℕ} → WellFormed t → Proportional t w → Joined t p q → w q · P p ≈ w p · P q
@@ -43,8 +43,8 @@ module _ {t : Table} {P : ℕ → Rational} (ratios : Ratios t P) where
       let e = proportional_way prop j.way in
       let scaled : above t j.path · (w q · P p) ≈ w p · (below t j.path · P p) =
       omega (arith, ap (λ (n : ℕ). n * ((P p).plus * (P p).over)) e, ap (λ (n : ℕ). n * ((P p).minus * (P p).over)) e) in
-      ·-cancel-≈ (above t j.path) (above_positive formed j.way)
-      (≈-trans scaled (≈-trans (·-≈ (w p) (≈-sym (way_ratio j.way))) (swap (w p) (above t j.path) (P q))))
+      ·_cancel_≈ (above t j.path) (above_positive formed j.way)
+      (≈_trans scaled (≈_trans (·-≈ (w p) (≈_sym (way_ratio j.way))) (swap (w p) (above t j.path) (P q))))
 
 -- ---- around closed ways
 module _ {t : Table} (formed : WellFormed t) (s : Solution t) where
@@ -62,7 +62,7 @@ module _ {t : Table} (formed : WellFormed t) (s : Solution t) where
 -- what a connection adds to a start depends on the value of the period alone
 pub added_≈ : {x y : Rational} (t : Table) (k : ℕ) (some : 0 < δ° t k) (s : Rational) → x ≈ y
     → s ⊕ ε t k ⊕ δ t k some ⊗ x ≈ s ⊕ ε t k ⊕ δ t k some ⊗ y
-added_≈ t k some s e = ⊕-≈ (≈-refl (s ⊕ ε t k)) (⊗-left-≈ (δ t k some) e)
+added_≈ t k some s e = ⊕-≈ (≈_refl (s ⊕ ε t k)) (⊗_left_≈ (δ t k some) e)
 
 -- (2) at a/b for rational starts
 pub record MeetsOver (g : Graph) (a b : ℕ) (over : 0 < b) (S : ℕ → Rational) : Type 0 where
@@ -76,7 +76,7 @@ module _ {g : Graph} {a b : ℕ} {over : 0 < b} {S : ℕ → Rational} (meets : 
       let x : Rational = S (g.from k) ⊕ ratio (gain g a b k) (loss g a b k) b over in
       let y : Rational = ratio (sum (gain g a b) path) (sum (loss g a b) path) b over in
       let split : S (g.from k) ⊕ ratio (sum (gain g a b) (k ∷ path)) (sum (loss g a b) (k ∷ path)) b over ≈ x ⊕ y = omega arith in
-      ≼_trans (≈-≼ split) (≼_trans (⊕-right-≼ y (meets.holds k m)) (walk_cost v))
+      ≼_trans (≈-≼ split) (≼_trans (⊕_right_≼ y (meets.holds k m)) (walk_cost v))
 
   closed_cost : (p : ℕ) (path : List ℕ) → Walk g p p path → sum (gain g a b) path ≤ sum (loss g a b) path
   closed_cost p path v =
@@ -105,17 +105,17 @@ module _ {t : Table} (formed : WellFormed t) where
   edge_cost {w} {a = a} {b = b} {c = c} {over = over} whole periods S k some e =
       let i = e.connection.a_link in
       let d = ratio ((graph_in t w c).D⁺ k * a) ((graph_in t w c).D⁻ k * a) b over in
-      let part : d ≈ δ t k some ⊗ share (w (from t k) * a) b over = ≈-scaled (δ° t k)
+      let part : d ≈ δ t k some ⊗ share (w (from t k) * a) b over = ≈_scaled (δ° t k)
       (omega (arith, ap (λ (n : ℕ). n * a) (forward_whole whole k i))) (omega (arith, ap (λ (n : ℕ). n * a) (back_whole whole k i))) (omega arith) in
-      ≈-trans (added_≈ t k some (S (from t k)) (≈-sym (periods.is (from t k) (from_in formed e))))
-      (≈-trans (⊕-≈ (≈-refl (S (from t k) ⊕ ε t k)) (≈-sym part)) (omega arith))
+      ≈_trans (added_≈ t k some (S (from t k)) (≈_sym (periods.is (from t k) (from_in formed e))))
+      (≈_trans (⊕-≈ (≈_refl (S (from t k) ⊕ ε t k)) (≈_sym part)) (omega arith))
 
   pub starts_over : {w : ℕ → ℕ} {P S : ℕ → Rational} {a b c : ℕ} {over : 0 < b} → AllWhole t w → PeriodsOver t w c P a b over → Starts t P S
       → MeetsOver (graph_in t w c) a b over S
   starts_over {S = S} whole periods starts = record {
     holds = λ k e.
         let some = some_over formed k e.connection.a_link in
-        ≼_trans (≈-≼ (≈-sym (edge_cost whole periods S k some e))) (starts.holds k e.connection some);
+        ≼_trans (≈-≼ (≈_sym (edge_cost whole periods S k some e))) (starts.holds k e.connection some);
   }
 
   pub solution_serves : {w : ℕ → ℕ} {c : ℕ} (s : Solution t) → Proportional t w → AllWhole t w → IsComponent t c → Served t w c s.period
@@ -126,7 +126,7 @@ module _ {t : Table} (formed : WellFormed t) where
     over = over;
     periods = periods;
     serves = record {
-      rates = λ p m. omega (arith, (≼_trans (s.meets.rates.holds p m.a_port) (·-≼ _ (≈-≼ (≈-sym (periods.is p m))))).holds);
+      rates = λ p m. omega (arith, (≼_trans (s.meets.rates.holds p m.a_port) (·-≼ _ (≈-≼ (≈_sym (periods.is p m))))).holds);
       cycles = closed_cost (starts_over whole periods s.meets.starts);
     };
   }
@@ -149,5 +149,5 @@ module _ {t : Table} (formed : WellFormed t) where
       periods : PeriodsOver t w c s.period a b over
       periods = record {
         is = λ p m.
-            omega (arith, (≈-trans (joined_ratio s.meets.ratios formed prop m.component.joined) (·-≈ (w p) c_share)).holds);
+            omega (arith, (≈_trans (joined_ratio s.meets.ratios formed prop m.component.joined) (·-≈ (w p) c_share)).holds);
       }

@@ -5,7 +5,7 @@ use Rattle.std.proofs.Math.Nat.{eq_of_mul-eq-mul_right, eq_of_mul-eq-mul_left}
 use Rattle.numbers.specs.Divisors.{Divides}
 use Rattle.numbers.specs.DivisorLaws.{quotient_is}
 use Rattle.numbers.specs.Rationals.{Rational, ◌≼◌, ◌≈◌, ◌⊕◌, ◌·◌, whole, signed, share}
-use Rattle.numbers.specs.RationalLaws.{archimedes, ≼-≺-trans, ≺-≼-trans, ≈-≼, ≈-sym, ≈-trans, ≈-refl, ⊕-zero, ⊕-≈, ·-≈, ·-≺}
+use Rattle.numbers.specs.RationalLaws.{archimedes, ≼-≺_trans, ≺-≼_trans, ≈-≼, ≈_sym, ≈_trans, ≈_refl, ⊕_zero, ⊕-≈, ·-≈, ·-≺}
 use Rattle.numbers.specs.Lists.{sum}
 use Rattle.numbers.specs.ListLaws.{sum_linear}
 use Rattle.specification.specs.Periods.{Graph, Walk, stop, step, RateLimit, CycleLimit, PortIn, ConnectionIn, graph_in}
@@ -27,7 +27,7 @@ record ChainTo (t : Table) (size : ℕ → ℕ) (p k : ℕ) (x : Rational) : Typ
 
 module _ {t : Table} {size : ℕ → ℕ} where
   chain_as : {p k : ℕ} {x y : Rational} → ChainTo t size p k x → x ≈ y → ChainTo t size p k y
-  chain_as h e = record { time = h.time; chain = h.chain; is = ≈-trans h.is e }
+  chain_as h e = record { time = h.time; chain = h.chain; is = ≈_trans h.is e }
 
   -- chains that gain d periods with each d events, as often as asked, are in the end later than any smaller period allows
   rounds_tight : {c at d : ℕ} {x period : Rational} (base : ℕ) → PortIn t c at → 0 < d → x ≈ d · period
@@ -43,7 +43,7 @@ module _ {t : Table} {size : ℕ → ℕ} where
           time = last.time;
           inside = inside;
           chain = last.chain;
-          late = ≺-≼-trans (≼-≺-trans (events (start at) y n) late) (≈-≼ (≈-trans (·-≈ n (≈-sym same)) (≈-sym last.is)));
+          late = ≺-≼_trans (≼-≺_trans (events (start at) y n) late) (≈-≼ (≈_trans (·-≈ n (≈_sym same)) (≈_sym last.is)));
         };
   }
     where
@@ -58,7 +58,7 @@ module _ {t : Table} {size : ℕ → ℕ} where
   spaced {q} i some (suc n) (suc k) e =
       let h = spaced i some n k (omega arith) in
       let limit = share (port t q).den (port t q).num some in
-      record { time = h.time ⊕ limit; chain = spacing h.chain some; is = ≈-trans (⊕-≈ h.is (≈-refl limit)) (more n limit) }
+      record { time = h.time ⊕ limit; chain = spacing h.chain some; is = ≈_trans (⊕-≈ h.is (≈_refl limit)) (more n limit) }
     where
       more : (n : ℕ) (x : Rational) → n · x ⊕ x ≈ suc n · x
       more n x = omega arith
@@ -107,13 +107,13 @@ module _ {t : Table} {c : ℕ} (formed : WellFormed t) (ones : RatiosOne t c) wh
         → ChainTo t size q k (x ⊕ signed (sum (ε⁺ t) path) (sum (ε⁻ t) path))
     walk_chain {x = x} m k stop far e h =
         let same : k ≡ m = omega arith in
-        rw same (chain_as h (≈-sym (⊕-zero x)))
+        rw same (chain_as h (≈_sym (⊕_zero x)))
     walk_chain {size = size} {x = x} m k (step n i v) far e h =
         let next : ℕ = m + e⁻ t n - e⁺ t n in
         let at_next : ChainTo t size (to t n) next (x ⊕ ε t n) = record {
           time = h.time ⊕ ε t n;
           chain = connection n next i.connection h.chain (whole_waits n next m i (omega arith));
-          is = ⊕-≈ h.is (≈-refl (ε t n));
+          is = ⊕-≈ h.is (≈_refl (ε t n));
         } in
         chain_as (walk_chain next k v (omega arith) (omega arith) at_next) (omega arith)
 

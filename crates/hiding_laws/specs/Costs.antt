@@ -3,27 +3,27 @@ use Rattle.std.specs.Prelude.{ℕ, zero, suc, ◌*◌, ◌≤◌, ◌<◌, ◌�
 use Rattle.std.proofs.Common.{⊎_elim, arith}
 use Rattle.numbers.specs.ListLaws.{lt_or_le}
 use Rattle.numbers.specs.Rationals.{Rational, ◌≼◌, ◌≈◌, ◌⊕◌, ◌⊗◌, ◌·◌, whole, share}
-use Rattle.numbers.specs.RationalLaws.{≼_trans, ≼_refl, ≈-sym, ≈-trans, ≈-refl, ≼-or-≺, ≺-≼, ⊕-assoc, ⊕-comm, ⊕-≈, ⊗-comm, ⊗-⊕, ⊗-left-≈, ·-≈, ·-·, ·-cancel-≈}
+use Rattle.numbers.specs.RationalLaws.{≼_trans, ≼_refl, ≈_sym, ≈_trans, ≈_refl, ≼_or_≺, ≺-≼, ⊕_assoc, ⊕_comm, ⊕-≈, ⊗_comm, ⊗-⊕, ⊗_left_≈, ·-≈, ·-·, ·_cancel_≈}
 
 pub same_times : {m n : ℕ} (x : Rational) → m ≡ n → m · x ≈ n · x
-same_times x e = rw e (≈-refl _)
+same_times x e = rw e (≈_refl _)
 
 pub swap : (m n : ℕ) (x : Rational) → m · (n · x) ≈ n · (m · x)
 swap m n x = omega arith
 
 -- a/b = c/d
 pub cross : (a b c d : ℕ) (x y : Rational) → 0 < b → a * d ≡ c * b → a · x ≈ b · y → c · x ≈ d · y
-cross a b c d x y some e h = ·-cancel-≈ b some
-    (≈-trans (·-· b c x)
-    (≈-trans (same_times x (omega (arith, e)))
-    (≈-trans (≈-sym (·-· d a x)) (≈-trans (·-≈ d h) (swap d b y)))))
+cross a b c d x y some e h = ·_cancel_≈ b some
+    (≈_trans (·-· b c x)
+    (≈_trans (same_times x (omega (arith, e)))
+    (≈_trans (≈_sym (·-· d a x)) (≈_trans (·-≈ d h) (swap d b y)))))
 
 -- two ratios in turn
 pub in_turn_lem : (n d m e : ℕ) (x y z : Rational) → n · y ≈ d · x → m · z ≈ e · y → (n * m) · z ≈ (d * e) · x
 in_turn_lem n d m e x y z h k =
-    ≈-trans (≈-sym (·-· n m z))
-    (≈-trans (·-≈ n k)
-    (≈-trans (swap n e y) (≈-trans (·-≈ e h) (≈-trans (·-· e d x) (same_times x (omega arith))))))
+    ≈_trans (≈_sym (·-· n m z))
+    (≈_trans (·-≈ n k)
+    (≈_trans (swap n e y) (≈_trans (·-≈ e h) (≈_trans (·-· e d x) (same_times x (omega arith))))))
 
 -- the second period of two, from the first
 pub divided : (n d : ℕ) (x y : Rational) (some : 0 < n) → n · y ≈ d · x → share d n some ⊗ x ≈ y
@@ -33,24 +33,24 @@ divided n d x y some h = omega (arith, h.holds)
 pub both_events : (n d : ℕ) (x y u v w : Rational) (some : 0 < n) → n · y ≈ d · x → w ≈ u ⊕ share d n some ⊗ v → w ⊗ x ≈ u ⊗ x ⊕ v ⊗ y
 both_events n d x y u v w some h e =
     let s = share d n some in
-    ≈-trans (⊗-comm w x)
-    (≈-trans (⊗-left-≈ x e)
-    (≈-trans (⊗-⊕ x u (s ⊗ v))
-    (⊕-≈ (⊗-comm x u)
-    (≈-trans (⊗-comm x (s ⊗ v))
-    (≈-trans (turned s v x) (⊗-left-≈ v (divided n d x y some h)))))))
+    ≈_trans (⊗_comm w x)
+    (≈_trans (⊗_left_≈ x e)
+    (≈_trans (⊗-⊕ x u (s ⊗ v))
+    (⊕-≈ (⊗_comm x u)
+    (≈_trans (⊗_comm x (s ⊗ v))
+    (≈_trans (turned s v x) (⊗_left_≈ v (divided n d x y some h)))))))
   where
     turned : (s v x : Rational) → (s ⊗ v) ⊗ x ≈ v ⊗ (s ⊗ x)
     turned s v x = omega arith
 
 middle : (x c d e : Rational) → x ⊕ c ⊕ (d ⊕ e) ≈ x ⊕ d ⊕ (c ⊕ e)
 middle x c d e =
-    ≈-trans (⊕-assoc x c (d ⊕ e))
-    (≈-trans (⊕-≈ (≈-refl x) (≈-trans (≈-sym (⊕-assoc c d e)) (≈-trans (⊕-≈ (⊕-comm c d) (≈-refl e)) (⊕-assoc d c e)))) (≈-sym (⊕-assoc x d (c ⊕ e))))
+    ≈_trans (⊕_assoc x c (d ⊕ e))
+    (≈_trans (⊕-≈ (≈_refl x) (≈_trans (≈_sym (⊕_assoc c d e)) (≈_trans (⊕-≈ (⊕_comm c d) (≈_refl e)) (⊕_assoc d c e)))) (≈_sym (⊕_assoc x d (c ⊕ e))))
 
 -- a start, both ε and both δ
 pub added : (a b c d e : Rational) → a ⊕ (b ⊕ c) ⊕ (d ⊕ e) ≈ (a ⊕ b ⊕ d) ⊕ (c ⊕ e)
-added a b c d e = ≈-trans (⊕-≈ (≈-sym (⊕-assoc a b c)) (≈-refl (d ⊕ e))) (middle (a ⊕ b) c d e)
+added a b c d e = ≈_trans (⊕-≈ (≈_sym (⊕_assoc a b c)) (≈_refl (d ⊕ e))) (middle (a ⊕ b) c d e)
 
 pub split : (a c e : Rational) → a ⊕ c ⊕ e ≈ a ⊕ (c ⊕ e)
 split a c e = omega arith
@@ -104,7 +104,7 @@ module _ (f : ℕ → Rational) (Q : ℕ → Type 0) (test : (k : ℕ) → Dec (
         passes = p;
         most = λ k h q. below_suc h (λ m. ≼_trans (s.most k m q) (≺-≼ l)) (λ e. rw e (≼_refl (f n)));
       }))
-      (≼-or-≺ (f n) (f s.at))
+      (≼_or_≺ (f n) (f s.at))
 
   search_below : (n : ℕ) → Found n
   search_below zero = nowhere (λ k h q. omega arith)

@@ -3,7 +3,7 @@ use Rattle.std.specs.Prelude.{ℕ, ◌*◌, ◌≤◌, ◌<◌, ◌≡◌, refl,
 use Rattle.std.proofs.Common.{sym, ap, ◌∙◌, ⊎_elim, mul-lt-mul_of_pos_right, arith, eq-eqb, ne_eqb}
 use Rattle.std.proofs.Math.Decide.{ℕ_discrete, dec_lt}
 use Rattle.numbers.specs.Rationals.{Rational, ◌≼◌, ◌≺◌, ◌≈◌, ◌⊕◌, ◌⊗◌, ◌·◌, whole, share}
-use Rattle.numbers.specs.RationalLaws.{≼_trans, ≈-≼, ≈-sym, ≈-trans, ≈-refl, ⊕-≈, ·-≈, ·-≼, ·-·, ·-cancel-≼, ·-cancel-≈}
+use Rattle.numbers.specs.RationalLaws.{≼_trans, ≈-≼, ≈_sym, ≈_trans, ≈_refl, ⊕-≈, ·-≈, ·-≼, ·-·, ·_cancel_≼, ·_cancel_≈}
 use Rattle.specification.specs.Table.{port, Table, IsPort, IsLink, from, to, num, den, IsConnection, δ°, port_count, link_count}
 use Rattle.specification.specs.Solutions.{ε, δ, Ratios, Starts, IsSolution}
 use Rattle.specification.specs.Hiding.{old_number, new_number}
@@ -26,10 +26,10 @@ at_old p x f r q e = rw (← e) (rw (ne_eqb (old_number p r) p (old_other p r), 
 -- a limit a of b times x is at least r of m times x
 larger : (a b r m : ℕ) (x : Rational) → 0 < b → b * r ≤ m * a → whole a ≼ b · x → whole r ≼ m · x
 larger a b r m x some h l =
-    ·-cancel-≼ b some
+    ·_cancel_≼ b some
     (≼_trans (≈-≼ (whole_times b r))
     (≼_trans (whole_≤ (b * r) (m * a) h)
-    (≼_trans (≈-≼ (≈-sym (whole_times m a))) (≼_trans (·-≼ m l) (≈-≼ (swap m b x))))))
+    (≼_trans (≈-≼ (≈_sym (whole_times m a))) (≼_trans (·-≼ m l) (≈-≼ (swap m b x))))))
 
 module _ {t t' : Table} {p : ℕ} {P' S' : ℕ → Rational} (formed : WellFormed t) (formed' : WellFormed t') (hidden : HiddenOf t t' p)
     (sol : IsSolution t' P' S') where
@@ -82,22 +82,22 @@ module _ {t t' : Table} {p : ℕ} {P' S' : ℕ → Rational} (formed : WellForme
   out_ratio {y} o =
       let n = num t x₀ in
       let d = den t x₀ in
-      ·-cancel-≈ n (link_num i₀.a_link)
-      (≈-trans (·-· n (num t y) (P (to t y)))
-      (≈-trans (pair_ratio i₀ o)
-      (≈-trans (same_times (P (from t x₀)) (omega arith))
-      (≈-trans (≈-sym (·-· (den t y) d (P (from t x₀))))
-      (≈-trans (·-≈ (den t y) (≈-sym first_ratio)) (swap (den t y) n (P p)))))))
+      ·_cancel_≈ n (link_num i₀.a_link)
+      (≈_trans (·-· n (num t y) (P (to t y)))
+      (≈_trans (pair_ratio i₀ o)
+      (≈_trans (same_times (P (from t x₀)) (omega arith))
+      (≈_trans (≈_sym (·-· (den t y) d (P (from t x₀))))
+      (≈_trans (·-≈ (den t y) (≈_sym first_ratio)) (swap (den t y) n (P p)))))))
 
   into_ratio : {x : ℕ} → Into t p x → num t x · P p ≈ den t x · P (from t x)
   into_ratio {x} i =
       let (y, o) = hidden.first_out in
-      ·-cancel-≈ (den t y) (link_den o.a_link)
-      (≈-trans (swap (den t y) (num t x) (P p))
-      (≈-trans (·-≈ (num t x) (≈-sym (out_ratio o)))
-      (≈-trans (·-· (num t x) (num t y) (P (to t y)))
-      (≈-trans (pair_ratio i o)
-      (≈-trans (same_times (P (from t x)) (omega arith)) (≈-sym (·-· (den t y) (den t x) (P (from t x)))))))))
+      ·_cancel_≈ (den t y) (link_den o.a_link)
+      (≈_trans (swap (den t y) (num t x) (P p))
+      (≈_trans (·-≈ (num t x) (≈_sym (out_ratio o)))
+      (≈_trans (·-· (num t x) (num t y) (P (to t y)))
+      (≈_trans (pair_ratio i o)
+      (≈_trans (same_times (P (from t x)) (omega arith)) (≈_sym (·-· (den t y) (den t x) (P (from t x)))))))))
 
   apart_ratio : {k : ℕ} → Apart t p k → num t k · P (to t k) ≈ den t k · P (from t k)
   apart_ratio {k} a =
@@ -125,7 +125,7 @@ module _ {t t' : Table} {p : ℕ} {P' S' : ℕ → Rational} (formed : WellForme
 
   asked_is : (k : ℕ) (d : Dec (0 < δ° t k)) (some : 0 < δ° t k) → asked k d ≈ S' (new_number p (from t k)) ⊕ ε t k ⊕ δ t k some ⊗ P (from t k)
   unfolding asked
-  asked_is k (yes s) some = record { holds = (≈-refl (S' (new_number p (from t k)) ⊕ ε t k ⊕ δ t k s ⊗ P (from t k))).holds }
+  asked_is k (yes s) some = record { holds = (≈_refl (S' (new_number p (from t k)) ⊕ ε t k ⊕ δ t k s ⊗ P (from t k))).holds }
   asked_is k (no n) some = absurd (n some)
 
   asks_is : (k : ℕ) (some : 0 < δ° t k) → asks k ≈ S' (new_number p (from t k)) ⊕ ε t k ⊕ δ t k some ⊗ P (from t k)
@@ -156,7 +156,7 @@ module _ {t t' : Table} {p : ℕ} {P' S' : ℕ → Rational} (formed : WellForme
   into_start : {k : ℕ} → Into t p k → (some : 0 < δ° t k) → S (from t k) ⊕ ε t k ⊕ δ t k some ⊗ P (from t k) ≼ S p
   into_start {k} i some =
       rw (start_new i.other, start_p)
-      (≼_trans (≈-≼ (≈-sym (asks_is k some))) (most.most k i.a_link.below i.ends))
+      (≼_trans (≈-≼ (≈_sym (asks_is k some))) (most.most k i.a_link.below i.ends))
 
   out_start : {k : ℕ} → OutOf t p k → (some : 0 < δ° t k) → S p ⊕ ε t k ⊕ δ t k some ⊗ P p ≼ S (to t k)
   out_start {k} o some =
@@ -173,9 +173,9 @@ module _ {t t' : Table} {p : ℕ} {P' S' : ℕ → Rational} (formed : WellForme
       let old : asks x ≈ S (from t x) ⊕ ε t x ⊕ δ t x b ⊗ P (from t x) = rw (start_new i.other) (asks_is x b) in
       rw start_p
       (≼_trans (≈-≼ (split (asks x) (ε t k) (δ t k some ⊗ P p)))
-      (≼_trans (≈-≼ (⊕-≈ old (≈-refl (ε t k ⊕ δ t k some ⊗ P p))))
-      (≼_trans (≈-≼ (≈-sym (added (S (from t x)) (ε t x) (ε t k) (δ t x b ⊗ P (from t x)) (δ t k some ⊗ P p))))
-      (≼_trans (≈-≼ (≈-sym (⊕-≈ (⊕-≈ (≈-refl (S (from t x))) v.ticks_are) events))) new))))
+      (≼_trans (≈-≼ (⊕-≈ old (≈_refl (ε t k ⊕ δ t k some ⊗ P p))))
+      (≼_trans (≈-≼ (≈_sym (added (S (from t x)) (ε t x) (ε t k) (δ t x b ⊗ P (from t x)) (δ t k some ⊗ P p))))
+      (≼_trans (≈-≼ (≈_sym (⊕-≈ (⊕-≈ (≈_refl (S (from t x))) v.ticks_are) events))) new))))
 
   apart_start : {k : ℕ} → Apart t p k → IsConnection t k → (some : 0 < δ° t k)
       → S (from t k) ⊕ ε t k ⊕ δ t k some ⊗ P (from t k) ≼ S (to t k)
@@ -223,16 +223,16 @@ module _ {t t' : Table} {p : ℕ} {P' S' : ℕ → Rational} (formed : WellForme
       (λ (some : 0 < (port t' hidden.q).num).
       let n = num t x₀ in
       let d = den t x₀ in
-      ·-cancel-≼ n (link_num i₀.a_link)
-      (≼_trans (≈-≼ (≈-trans (whole_times n (port t p).den) (same_whole (omega arith))))
+      ·_cancel_≼ n (link_num i₀.a_link)
+      (≼_trans (≈-≼ (≈_trans (whole_times n (port t p).den) (same_whole (omega arith))))
       (≼_trans (larger (port t' hidden.q).den (port t' hidden.q).num ((port t p).den * n) ((port t p).num * d) (P (from t x₀)) some
       hidden.slowed.enough slow)
-      (≈-≼ (≈-trans (≈-sym (·-· (port t p).num d (P (from t x₀)))) (≈-trans (·-≈ (port t p).num (≈-sym first_ratio)) (swap (port t p).num n (P p))))))))
+      (≈-≼ (≈_trans (≈_sym (·-· (port t p).num d (P (from t x₀)))) (≈_trans (·-≈ (port t p).num (≈_sym first_ratio)) (swap (port t p).num n (P p))))))))
       (λ (none : ((port t p).num ≡ 0) × ((port t p).den ≡ 0) × ((port t (from t x₀)).num ≡ 0) × ((port t (from t x₀)).den ≡ 0)). rw (none.0, none.1) (omega arith))
       hidden.slowed.some
     where
       same_whole : {m n : ℕ} → m ≡ n → whole m ≈ whole n
-      same_whole e = rw e (≈-refl _)
+      same_whole e = rw e (≈_refl _)
 
   sender_rate : whole (port t (from t x₀)).den ≼ (port t (from t x₀)).num · P (from t x₀)
   sender_rate = ⊎_elim

@@ -3,7 +3,7 @@ use Rattle.std.specs.Prelude.{ℕ, ◌*◌, ◌<◌, ◌≡◌}
 use Rattle.std.proofs.Common.{sym, ap, ◌∙◌, ⊎_elim, mul-pos, arith}
 use Rattle.std.proofs.Math.Decide.{ℕ_discrete}
 use Rattle.numbers.specs.Rationals.{Rational, ◌≼◌, ◌≈◌, ◌⊕◌, ◌⊗◌, ◌·◌, whole}
-use Rattle.numbers.specs.RationalLaws.{≼_trans, ≈-≼, ≈-sym, ≈-trans, ≈-refl, ⊕-≈, ⊕-right-≼, ·-≈, ·-≼, ·-·, ·-cancel-≼}
+use Rattle.numbers.specs.RationalLaws.{≼_trans, ≈-≼, ≈_sym, ≈_trans, ≈_refl, ⊕-≈, ⊕_right_≼, ·-≈, ·-≼, ·-·, ·_cancel_≼}
 use Rattle.specification.specs.Table.{port, Table, IsPort, IsLink, from, to, num, den, IsConnection, δ°}
 use Rattle.specification.specs.Solutions.{ε, δ, IsSolution}
 use Rattle.specification.specs.Hiding.{old_number}
@@ -15,17 +15,17 @@ use Rattle.hiding_laws.specs.HiddenOf.{Into, OutOf, Apart, Kept, Via, HiddenOf, 
 -- x and y with what they add come no later than z
 pub two_steps : (a b c d e s z : Rational) → a ⊕ b ⊕ d ≼ s → s ⊕ c ⊕ e ≼ z → a ⊕ (b ⊕ c) ⊕ (d ⊕ e) ≼ z
 two_steps a b c d e s z h k =
-    ≼_trans (≈-≼ (added a b c d e)) (≼_trans (⊕-right-≼ (c ⊕ e) h) (≼_trans (≈-≼ (≈-sym (split s c e))) k))
+    ≼_trans (≈-≼ (added a b c d e)) (≼_trans (⊕_right_≼ (c ⊕ e) h) (≼_trans (≈-≼ (≈_sym (split s c e))) k))
 
 -- a rate limit carried along a ratio: n · y ≈ d · x, and r / m of y is as a / b of x
 pub carried : (n d m r a b : ℕ) (x y : Rational) → 0 < m * d → n · y ≈ d · x → b * (r * n) ≡ m * d * a → whole r ≼ m · y → whole a ≼ b · x
 carried n d m r a b x y some h e l =
-    ·-cancel-≼ (m * d) some
-    (≼_trans (≈-≼ (≈-trans (whole_times (m * d) a) (≈-trans (same e) (≈-sym (≈-trans (·-≈ b (whole_times n r)) (whole_times b (n * r)))))))
-    (≼_trans (·-≼ b (·-≼ n l)) (≈-≼ (≈-trans (·-≈ b (≈-trans (swap n m y) (≈-trans (·-≈ m h) (·-· m d x)))) (swap b (m * d) x)))))
+    ·_cancel_≼ (m * d) some
+    (≼_trans (≈-≼ (≈_trans (whole_times (m * d) a) (≈_trans (same e) (≈_sym (≈_trans (·-≈ b (whole_times n r)) (whole_times b (n * r)))))))
+    (≼_trans (·-≼ b (·-≼ n l)) (≈-≼ (≈_trans (·-≈ b (≈_trans (swap n m y) (≈_trans (·-≈ m h) (·-· m d x)))) (swap b (m * d) x)))))
   where
     same : b * (r * n) ≡ m * d * a → whole (m * d * a) ≈ whole (b * (n * r))
-    same e = let e' : m * d * a ≡ b * (n * r) = omega (arith, e) in rw e' (≈-refl _)
+    same e = let e' : m * d * a ≡ b * (n * r) = omega (arith, e) in rw e' (≈_refl _)
 
 module _ {t t' : Table} {p : ℕ} {P S P' S' : ℕ → Rational} (formed : WellFormed t) (hidden : HiddenOf t t' p)
     (same : Without p P S P' S') (sol : IsSolution t P S) where
@@ -89,7 +89,7 @@ module _ {t t' : Table} {p : ℕ} {P S P' S' : ℕ → Rational} (formed : WellF
       rw o.begins at (sol.starts.holds y (record { a_link = o.a_link; events = o.events }) c) in
       let events = both_events (num t x) (den t x) (P (from t x)) (P p) (δ t x b) (δ t y c) (δ t' j some) n (into_ratio i) (v.events_are some b c n) in
       rw (start_at_lem (from t' j) v.from_same, start_at_lem (to t' j) v.to_same, period_at (from t' j) v.from_same)
-      (≼_trans (≈-≼ (⊕-≈ (⊕-≈ (≈-refl (S (from t x))) v.ticks_are) events))
+      (≼_trans (≈-≼ (⊕-≈ (⊕-≈ (≈_refl (S (from t x))) v.ticks_are) events))
       (two_steps (S (from t x)) (ε t x) (ε t y) (δ t x b ⊗ P (from t x)) (δ t y c ⊗ P p) (S p) (S (to t y)) first second))
 
   -- (3)

@@ -3,7 +3,7 @@ use Rattle.std.specs.Prelude.{ℕ, ◌≡◌, refl, ◌≢◌}
 use Rattle.std.proofs.Common.{arith}
 use Rattle.std.proofs.Math.Decide.{ℕ_discrete}
 use Rattle.numbers.specs.Rationals.{Rational, ◌≈◌, ◌⊕◌, ◌·◌}
-use Rattle.numbers.specs.RationalLaws.{≼-antisym, ≼_trans, ≼-not-≺, ≈-≼, ≈-sym, ≈-trans, ≈-refl, ⊕-≈, ⊗-left-≈, ·-≈, ·-cancel-≈}
+use Rattle.numbers.specs.RationalLaws.{≼_antisym, ≼_trans, ≼_not_≺, ≈-≼, ≈_sym, ≈_trans, ≈_refl, ⊕-≈, ⊗_left_≈, ·-≈, ·_cancel_≈}
 use Rattle.specification.specs.Table.{Table, port_count, IsPort, from, num, den}
 use Rattle.specification.specs.Ratios.{SmallWeights, Overweight}
 use Rattle.specification.specs.Answers.{Timing, period_of, start_of}
@@ -22,7 +22,7 @@ starts_≈ : {t : Table} {P Q S : ℕ → Rational} → WellFormed t → ((p : �
 starts_≈ {t} {S = S} formed same h = record {
   holds = λ k l some.
       let there = same (from t k) (record { below = (formed.links k l.a_link.below).from }) in
-      ≼_trans (≈-≼ (⊕-≈ (≈-refl (S (from t k) ⊕ ε t k)) (⊗-left-≈ (δ t k some) (≈-sym there)))) (h.holds k l some);
+      ≼_trans (≈-≼ (⊕-≈ (≈_refl (S (from t k) ⊕ ε t k)) (⊗_left_≈ (δ t k some) (≈_sym there)))) (h.holds k l some);
 }
 
 with_starts : {t : Table} {P S T : ℕ → Rational} → IsSolution t P S → Starts t P T → IsSolution t P T
@@ -45,7 +45,7 @@ module _ {t t' : Table} {p : ℕ} (formed : WellFormed t) (formed' : WellFormed 
   module _ {r r' : Timing} (least : LeastSolution t r) (least' : LeastSolution t' r') where
     same_periods : (q : ℕ) → IsPort t' q → period_of r' q ≈ period_of r (old_number p q)
     unfolding solution_there
-    same_periods q i = ≼-antisym
+    same_periods q i = ≼_antisym
         (least'.least_periods (solution_there (record { period = period_of r; start = start_of r; meets = least.solution })) q i)
         (let e = extension formed formed' hidden least'.solution in
         rw (← (e.same.period q)) at
@@ -67,8 +67,8 @@ module _ {t t' : Table} {p : ℕ} (formed : WellFormed t) (formed' : WellFormed 
           let port : IsPort t (from t x) = record { below = (formed.links x i.a_link.below).from } in
           let new : num t x · P p ≈ den t x · P (from t x) = rw i.ends at (ratios.holds x i.a_link) in
           let old : num t x · period_of r p ≈ den t x · period_of r (from t x) = rw i.ends at (least.solution.ratios.holds x i.a_link) in
-          ·-cancel-≈ (num t x) (formed.links x i.a_link.below).num.least
-          (≈-trans new (≈-trans (·-≈ (den t x) (other_period (from t x) port i.other)) (≈-sym old)))
+          ·_cancel_≈ (num t x) (formed.links x i.a_link.below).num.least
+          (≈_trans new (≈_trans (·-≈ (den t x) (other_period (from t x) port i.other)) (≈_sym old)))
 
       every_period : (q : ℕ) → IsPort t q → Dec (q ≡ p) → P q ≈ period_of r q
       every_period q i (yes e) = rw e p_period
@@ -78,7 +78,7 @@ module _ {t t' : Table} {p : ℕ} (formed : WellFormed t) (formed' : WellFormed 
     same_times = record {
       periods = same_periods;
       starts_there = λ S h.
-          starts_≈ formed' (λ q i. ≈-sym (same_periods q i))
+          starts_≈ formed' (λ q i. ≈_sym (same_periods q i))
           (restricted formed hidden (record { period = λ q. refl; start = λ q. refl }) (with_starts least.solution h)).starts;
       starts_back = λ S' h.
           let e = extension formed formed' hidden (with_starts least'.solution h) in
@@ -106,4 +106,4 @@ module _ {t t' : Table} {p : ℕ} (formed : WellFormed t) (formed' : WellFormed 
       let s = n.smaller (solution_there (record { period = period_of r; start = start_of r; meets = least.solution })) in
       let e = extension formed formed' hidden s.other.meets in
       let most = least.least_periods (record { period = e.period; start = e.start; meets = e.solution }) (old_number p q) (old_port hidden q n.a_port) in
-      ≼-not-≺ (rw (← (e.same.period q)) at most) s.less
+      ≼_not_≺ (rw (← (e.same.period q)) at most) s.less

@@ -55,7 +55,8 @@ fn read_once<R: Read>(reader: &mut R, buf: &mut [u8], count: usize) -> Input
     after_read(count, got, &buf[count..])
 }
 
-// Reads until the buffer is full, the input ends or a read fails: what was read stands at the front. `read_exact` does not say how much that is.
+// Reads until the buffer is full, the input ends or a read fails: what was read stands at the front. `read_exact` does not say how much that
+// is. The clauses `bytes` and `end` speak of a reader whose bytes std knows; of a file or standard input it knows none.
 pub fn fill<R: Read>(reader: &mut R, buf: &mut [u8]) -> Input
     ensures count_in_bounds { result.count ≤ length buf.new }
     ensures buf_len_unchanged { length buf.new ≡ length buf.old }

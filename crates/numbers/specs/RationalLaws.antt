@@ -16,30 +16,30 @@ pub ≼_trans : {x y z : Rational} → x ≼ y → y ≼ z → x ≼ z
       y.positive;
 }
 
-pub ≼-≺-trans : {x y z : Rational} → x ≼ y → y ≺ z → x ≺ z
-≼-≺-trans {x} {y} {z} h k = record {
+pub ≼-≺_trans : {x y z : Rational} → x ≼ y → y ≺ z → x ≺ z
+≼-≺_trans {x} {y} {z} h k = record {
   holds =
       lt_of_mul-lt-mul_right y.over
       (omega (arith, mul-le-mul_right z.over h.holds, mul-lt-mul_of_pos_right k.holds x.positive));
 }
 
-pub ≺-≼-trans : {x y z : Rational} → x ≺ y → y ≼ z → x ≺ z
-≺-≼-trans {x} {y} {z} h k = record {
+pub ≺-≼_trans : {x y z : Rational} → x ≺ y → y ≼ z → x ≺ z
+≺-≼_trans {x} {y} {z} h k = record {
   holds =
       lt_of_mul-lt-mul_right y.over
       (omega (arith, mul-lt-mul_of_pos_right h.holds z.positive, mul-le-mul_right x.over k.holds));
 }
 
-pub ≼-or-≺ : (x y : Rational) → (x ≼ y) ⊎ (y ≺ x)
-≼-or-≺ x y = decided (dec_le (x.plus * y.over + y.minus * x.over) (y.plus * x.over + x.minus * y.over))
+pub ≼_or_≺ : (x y : Rational) → (x ≼ y) ⊎ (y ≺ x)
+≼_or_≺ x y = decided (dec_le (x.plus * y.over + y.minus * x.over) (y.plus * x.over + x.minus * y.over))
   where
     decided : Dec (x.plus * y.over + y.minus * x.over ≤ y.plus * x.over + x.minus * y.over)
         → (x ≼ y) ⊎ (y ≺ x)
     decided (yes h) = inl (record { holds = h })
     decided (no f) = inr (omega arith)
 
-pub ≼-not-≺ : {x y : Rational} → x ≼ y → ¬ (y ≺ x)
-≼-not-≺ h k = omega arith
+pub ≼_not_≺ : {x y : Rational} → x ≼ y → ¬ (y ≺ x)
+≼_not_≺ h k = omega arith
 
 pub ≺-≼ : {x y : Rational} → x ≺ y → x ≼ y
 ≺-≼ h = omega arith
@@ -47,21 +47,21 @@ pub ≺-≼ : {x y : Rational} → x ≺ y → x ≼ y
 pub ≈-≼ : {x y : Rational} → x ≈ y → x ≼ y
 ≈-≼ h = omega arith
 
-pub ≼-antisym : {x y : Rational} → x ≼ y → y ≼ x → x ≈ y
-≼-antisym h k = omega arith
+pub ≼_antisym : {x y : Rational} → x ≼ y → y ≼ x → x ≈ y
+≼_antisym h k = omega arith
 
-pub ≈-refl : (x : Rational) → x ≈ x
-≈-refl x = omega arith
+pub ≈_refl : (x : Rational) → x ≈ x
+≈_refl x = omega arith
 
-pub ≈-sym : {x y : Rational} → x ≈ y → y ≈ x
-≈-sym h = omega arith
+pub ≈_sym : {x y : Rational} → x ≈ y → y ≈ x
+≈_sym h = omega arith
 
-pub ≈-trans : {x y z : Rational} → x ≈ y → y ≈ z → x ≈ z
-≈-trans h k = ≼-antisym (≼_trans (≈-≼ h) (≈-≼ k)) (≼_trans (≈-≼ (≈-sym k)) (≈-≼ (≈-sym h)))
+pub ≈_trans : {x y z : Rational} → x ≈ y → y ≈ z → x ≈ z
+≈_trans h k = ≼_antisym (≼_trans (≈-≼ h) (≈-≼ k)) (≼_trans (≈-≼ (≈_sym k)) (≈-≼ (≈_sym h)))
 
 -- each part k times is the same number
-pub ≈-scaled : (k : ℕ) {x y : Rational} → y.plus ≡ k * x.plus → y.minus ≡ k * x.minus → y.over ≡ k * x.over → x ≈ y
-≈-scaled k {x} {y} p m o = omega (
+pub ≈_scaled : (k : ℕ) {x y : Rational} → y.plus ≡ k * x.plus → y.minus ≡ k * x.minus → y.over ≡ k * x.over → x ≈ y
+≈_scaled k {x} {y} p m o = omega (
   arith,
   ap (λ (n : ℕ). x.plus * n) o,
   ap (λ (n : ℕ). x.minus * n) o,
@@ -70,69 +70,69 @@ pub ≈-scaled : (k : ℕ) {x y : Rational} → y.plus ≡ k * x.plus → y.minu
 )
 
 -- ---- sum
-pub ⊕-comm : (x y : Rational) → x ⊕ y ≈ y ⊕ x
-⊕-comm x y = omega arith
+pub ⊕_comm : (x y : Rational) → x ⊕ y ≈ y ⊕ x
+⊕_comm x y = omega arith
 
-pub ⊕-assoc : (x y z : Rational) → (x ⊕ y) ⊕ z ≈ x ⊕ (y ⊕ z)
-⊕-assoc x y z = omega arith
+pub ⊕_assoc : (x y z : Rational) → (x ⊕ y) ⊕ z ≈ x ⊕ (y ⊕ z)
+⊕_assoc x y z = omega arith
 
-pub ⊕-zero : (x : Rational) → x ⊕ whole 0 ≈ x
-⊕-zero x = omega arith
+pub ⊕_zero : (x : Rational) → x ⊕ whole 0 ≈ x
+⊕_zero x = omega arith
 
 pub ⊖-≼ : (x y z : Rational) → (x ⊖ y ≼ z) ↔ (x ≼ y ⊕ z)
 ⊖-≼ x y z = (λ h. omega arith, λ h. omega arith)
 
-pub ⊕-right-≼ : {x y : Rational} (z : Rational) → x ≼ y → x ⊕ z ≼ y ⊕ z
-⊕-right-≼ z h = omega (arith, mul-le-mul_right (z.over * z.over) h.holds)
+pub ⊕_right_≼ : {x y : Rational} (z : Rational) → x ≼ y → x ⊕ z ≼ y ⊕ z
+⊕_right_≼ z h = omega (arith, mul-le-mul_right (z.over * z.over) h.holds)
 
-pub ⊕-right-≺ : {x y : Rational} (z : Rational) → x ≺ y → x ⊕ z ≺ y ⊕ z
-⊕-right-≺ z h = omega (arith, mul-lt-mul_of_pos_right h.holds (mul-pos z.positive z.positive))
+pub ⊕_right_≺ : {x y : Rational} (z : Rational) → x ≺ y → x ⊕ z ≺ y ⊕ z
+⊕_right_≺ z h = omega (arith, mul-lt-mul_of_pos_right h.holds (mul-pos z.positive z.positive))
 
-pub ⊕-cancel-≼ : {x y : Rational} (z : Rational) → x ⊕ z ≼ y ⊕ z → x ≼ y
-⊕-cancel-≼ z h = record {
+pub ⊕_cancel_≼ : {x y : Rational} (z : Rational) → x ⊕ z ≼ y ⊕ z → x ≼ y
+⊕_cancel_≼ z h = record {
   holds = le_of_mul-le-mul_right {k = z.over * z.over} (omega arith) (mul-pos z.positive z.positive);
 }
 
 pub ⊕-≼ : {x y z w : Rational} → x ≼ y → z ≼ w → x ⊕ z ≼ y ⊕ w
 ⊕-≼ {x} {y} {z} {w} h k =
-    ≼_trans (⊕-right-≼ z h) (≼_trans (≈-≼ (⊕-comm y z)) (≼_trans (⊕-right-≼ y k) (≈-≼ (⊕-comm w y))))
+    ≼_trans (⊕_right_≼ z h) (≼_trans (≈-≼ (⊕_comm y z)) (≼_trans (⊕_right_≼ y k) (≈-≼ (⊕_comm w y))))
 
 pub ⊕-≈ : {x y z w : Rational} → x ≈ y → z ≈ w → x ⊕ z ≈ y ⊕ w
-⊕-≈ h k = ≼-antisym (⊕-≼ (≈-≼ h) (≈-≼ k)) (⊕-≼ (≈-≼ (≈-sym h)) (≈-≼ (≈-sym k)))
+⊕-≈ h k = ≼_antisym (⊕-≼ (≈-≼ h) (≈-≼ k)) (⊕-≼ (≈-≼ (≈_sym h)) (≈-≼ (≈_sym k)))
 
 -- ---- product
-pub ⊗-comm : (x y : Rational) → x ⊗ y ≈ y ⊗ x
-⊗-comm x y = omega arith
+pub ⊗_comm : (x y : Rational) → x ⊗ y ≈ y ⊗ x
+⊗_comm x y = omega arith
 
-pub ⊗-assoc : (x y z : Rational) → (x ⊗ y) ⊗ z ≈ x ⊗ (y ⊗ z)
-⊗-assoc x y z = omega arith
+pub ⊗_assoc : (x y z : Rational) → (x ⊗ y) ⊗ z ≈ x ⊗ (y ⊗ z)
+⊗_assoc x y z = omega arith
 
-pub ⊗-one : (x : Rational) → x ⊗ whole 1 ≈ x
-⊗-one x = omega arith
+pub ⊗_one : (x : Rational) → x ⊗ whole 1 ≈ x
+⊗_one x = omega arith
 
 pub ⊗-⊕ : (x y z : Rational) → x ⊗ (y ⊕ z) ≈ x ⊗ y ⊕ x ⊗ z
-⊗-⊕ x y z = ≈-scaled x.over (omega arith) (omega arith) (omega arith)
+⊗-⊕ x y z = ≈_scaled x.over (omega arith) (omega arith) (omega arith)
 
-pub ⊗-left-≈ : {x y : Rational} (z : Rational) → x ≈ y → z ⊗ x ≈ z ⊗ y
-⊗-left-≈ z h = omega (
+pub ⊗_left_≈ : {x y : Rational} (z : Rational) → x ≈ y → z ⊗ x ≈ z ⊗ y
+⊗_left_≈ z h = omega (
   arith,
   ap (λ (t : ℕ). t * (z.plus * z.over)) h.holds,
   ap (λ (t : ℕ). t * (z.minus * z.over)) h.holds,
 )
 
 -- a factor that is not below zero keeps the order
-pub ⊗-left-≼ : {x y : Rational} (p o : ℕ) (s : 0 < o) → x ≼ y → share p o s ⊗ x ≼ share p o s ⊗ y
-⊗-left-≼ p o s h = omega (arith, mul-le-mul_right (p * o) h.holds)
+pub ⊗_left_≼ : {x y : Rational} (p o : ℕ) (s : 0 < o) → x ≼ y → share p o s ⊗ x ≼ share p o s ⊗ y
+⊗_left_≼ p o s h = omega (arith, mul-le-mul_right (p * o) h.holds)
 
 -- ---- multiples
-pub ·-is : (n : ℕ) (x : Rational) → n · x ≈ whole n ⊗ x
-·-is n x = omega arith
+pub ·_is : (n : ℕ) (x : Rational) → n · x ≈ whole n ⊗ x
+·_is n x = omega arith
 
-pub ·-zero : (x : Rational) → 0 · x ≈ whole 0
-·-zero x = omega arith
+pub ·_zero : (x : Rational) → 0 · x ≈ whole 0
+·_zero x = omega arith
 
-pub ·-one : (x : Rational) → 1 · x ≈ x
-·-one x = omega arith
+pub ·_one : (x : Rational) → 1 · x ≈ x
+·_one x = omega arith
 
 pub ·-· : (m n : ℕ) (x : Rational) → m · (n · x) ≈ (m * n) · x
 ·-· m n x = omega arith
@@ -150,13 +150,13 @@ pub ·-≺ : (n : ℕ) {x y : Rational} → 0 < n → x ≺ y → n · x ≺ n �
 ·-≺ n p h = omega (arith, mul-lt-mul_of_pos_right h.holds p)
 
 pub ·-≈ : (n : ℕ) {x y : Rational} → x ≈ y → n · x ≈ n · y
-·-≈ n h = ≼-antisym (·-≼ n (≈-≼ h)) (·-≼ n (≈-≼ (≈-sym h)))
+·-≈ n h = ≼_antisym (·-≼ n (≈-≼ h)) (·-≼ n (≈-≼ (≈_sym h)))
 
-pub ·-cancel-≼ : (n : ℕ) {x y : Rational} → 0 < n → n · x ≼ n · y → x ≼ y
-·-cancel-≼ n p h = record { holds = le_of_mul-le-mul_right {k = n} (omega arith) p }
+pub ·_cancel_≼ : (n : ℕ) {x y : Rational} → 0 < n → n · x ≼ n · y → x ≼ y
+·_cancel_≼ n p h = record { holds = le_of_mul-le-mul_right {k = n} (omega arith) p }
 
-pub ·-cancel-≈ : (n : ℕ) {x y : Rational} → 0 < n → n · x ≈ n · y → x ≈ y
-·-cancel-≈ n p h = ≼-antisym (·-cancel-≼ n p (≈-≼ h)) (·-cancel-≼ n p (≈-≼ (≈-sym h)))
+pub ·_cancel_≈ : (n : ℕ) {x y : Rational} → 0 < n → n · x ≈ n · y → x ≈ y
+·_cancel_≈ n p h = ≼_antisym (·_cancel_≼ n p (≈-≼ h)) (·_cancel_≼ n p (≈-≼ (≈_sym h)))
 
 -- ---- multiples of a rational above zero stand in the order of their factors
 module _ {x : Rational} (some : whole 0 ≺ x) where
@@ -178,7 +178,7 @@ module _ {x : Rational} (some : whole 0 ≺ x) where
   factor_≺ m n h = lt_of_mul-lt-mul_right above (omega (arith, plus_is m, plus_is n))
 
   pub factor_≈ : {m n : ℕ} → m · x ≈ n · x → m ≡ n
-  factor_≈ {m} {n} h = le_antisymm (factor_≼ m n (≈-≼ h)) (factor_≼ n m (≈-≼ (≈-sym h)))
+  factor_≈ {m} {n} h = le_antisymm (factor_≼ m n (≈-≼ h)) (factor_≼ n m (≈-≼ (≈_sym h)))
 
 -- ---- over one denominator, order and sum are those of whole numbers
 pub ratio_≼ : (o : ℕ) (s : 0 < o) (p m q n : ℕ) → (ratio p m o s ≼ ratio q n o s) ↔ (p + n ≤ q + m)
