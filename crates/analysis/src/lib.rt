@@ -212,7 +212,8 @@ fn time_middle(
     )
 }
 
-// The same with room for every table.
+// The same with room for every table. Its 49 KB of stack are not there while the ratios are worked out.
+#[inline(never)]
 fn time_large(
     ports: &[u32],
     links: &[u32],

@@ -60,7 +60,8 @@ pub fn ratios_of(ports: &[u32], links: &[u32], numbers: &mut [u64]) -> Ratios
     by_rows(ports, links, labels, most, numbers)
 }
 
-// The same by rows of exponents, where some ratio is not 1.
+// The same by rows of exponents, where some ratio is not 1. Its 56 KB of stack are not there while the periods are searched.
+#[inline(never)]
 fn by_rows(
     ports: &[u32],
     links: &[u32],
