@@ -1,2 +1,3 @@
 -- What the proofs of the analysis use.
 mod Outcomes
+mod Ordering

@@ -1,4 +1,5 @@
 -- What the analysis of a table promises, what timing its components does, and the demands that follow.
+pub mod Ordered
 pub mod Timed
 pub mod Decided
 pub mod ShownLaws

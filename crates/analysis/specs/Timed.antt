@@ -1,16 +1,16 @@
 -- The periods and starts of a table's components, and what timing one of them comes to.
-use Rattle.std.specs.Prelude.{ℕ, ◌+◌, ◌*◌, ◌≤◌, ◌<◌, ◌≡◌, List, [], ◌++◌, length, get_or, replicate}
+use Rattle.std.specs.Prelude.{ℕ, ◌+◌, ◌≤◌, ◌<◌, ◌≡◌, List, ◌++◌, length, get_or}
 use Rattle.fraction.specs.declared.Fraction.{Fraction}
 use Rattle.specification.specs.Bytes.{Written, cycle_answer}
 use Rattle.numbers.specs.Lists.{◌∈◌}
 use Rattle.specification.specs.Periods.{LeastStarts, Period, HasPeriod, NoLeast, PortIn, graph_in}
-use Rattle.specification.specs.Table.{Table, port_count, link_count}
+use Rattle.specification.specs.Table.{Table}
 use Rattle.period.specs.Search.{SmallPeriod, most_start}
-use Rattle.order.specs.Order.{Sorted}
 use Rattle.specification.specs.Answers.{Floor, floor_record, NoPeriod}
 use Rattle.specification.specs.Ratios.{IsComponent}
-use Rattle.graph.specs.Arranged.{Labelled, labels_of, most_members, SlicesIn, Arranged}
-use Rattle.results.specs.Kept.{component_at, a_at, b_at, start_at}
+use Rattle.graph.specs.Arranged.{Labelled, SlicesIn}
+use Rattle.results.specs.Kept.{none_kept, component_at, a_at, b_at, start_at}
+use Rattle.results.specs.declared.kept.Kept.{Kept}
 use Rattle.analysis.specs.Decided.{shown_in}
 use Rattle.analysis.specs.declared.periods.Timed.{Timed}
 use Rattle.analysis.specs.declared.periods.Timed.TheVariants.{Least, NoLeast as Without, Shown as Shows}
@@ -21,18 +21,12 @@ pub record Members (members : List ℕ) : Type 0 where
   pub low : (p : ℕ) → p ∈ members → p < 64
 
 -- these ports hold their lowest as their component, this period and these starts; nothing else changed
-pub record Kept (members : List ℕ) (period : Fraction) (starts kept kept' : List ℕ) : Type 0 where
+pub record IsKept (members : List ℕ) (period : Fraction) (starts : List ℕ) (kept kept' : List Kept) : Type 0 where
   pub same_length : length kept' ≡ length kept
-  pub kept_component : (p : ℕ) → p ∈ members → component_at kept' p ≡ get_or members 0 0
-  pub kept_a : (p : ℕ) → p ∈ members → a_at kept' p ≡ period.num
-  pub kept_b : (p : ℕ) → p ∈ members → b_at kept' p ≡ period.den
-  pub kept_start : (p : ℕ) → p ∈ members → start_at kept' p ≡ get_or starts p 0
-  pub other_component : (p : ℕ) → ¬ (p ∈ members) → component_at kept' p ≡ component_at kept p
-  pub other_a : (p : ℕ) → ¬ (p ∈ members) → a_at kept' p ≡ a_at kept p
-  pub other_b : (p : ℕ) → ¬ (p ∈ members) → b_at kept' p ≡ b_at kept p
-  pub other_start : (p : ℕ) → ¬ (p ∈ members) → start_at kept' p ≡ start_at kept p
+  pub own : (p : ℕ) → p ∈ members → get_or kept' p none_kept ≡ record { component = get_or members 0 0; period = period; start = get_or starts p 0 }
+  pub others : (p : ℕ) → ¬ (p ∈ members) → get_or kept' p none_kept ≡ get_or kept p none_kept
 
-module _ (t : Table) (weights kept : List ℕ) where
+module _ (t : Table) (weights : List ℕ) (kept : List Kept) where
   -- the ports of component c hold its period and its least starts
   pub record TimedIn (c : ℕ) : Type 0 where
     pub a : ℕ
@@ -47,7 +41,7 @@ module _ (t : Table) (weights kept : List ℕ) where
 
   -- those of the components below n
   pub record TimedBelow (n : ℕ) : Type 0 where
-    pub long : length kept ≡ 256
+    pub long : length kept ≡ 64
     pub each : (c : ℕ) → IsComponent t c → c < n → TimedIn c
 
 -- every component below n has a period
@@ -74,7 +68,7 @@ number_of Without = 17
 number_of (Shows n) = 15
 
 -- ---- one component, c
-module _ (t : Table) (weights : List ℕ) (c : ℕ) (kept kept' before after : List ℕ) where
+module _ (t : Table) (weights : List ℕ) (c : ℕ) (kept kept' : List Kept) (before after : List ℕ) where
   -- it has a least period, which is kept with those of the components below
   pub record OneLeast : Type 0 where
     pub timed : TimedBelow t weights kept c → TimedBelow t weights kept' (c + 1)
@@ -104,18 +98,3 @@ pub record ComponentSlices (t : Table) (weights members numbers : List ℕ) : Ty
   pub labelled : Labelled t labels weights
   pub component : IsComponent t (get_or members 0 0)
   pub slices : SlicesIn t labels (get_or members 0 0) members numbers
-
--- the ports and connections of all components, and room for the rows of starts and the costs of the largest
-pub record TableSlices (t : Table) (weights members numbers : List ℕ) (ends : List (List ℕ)) (room : ℕ) : Type 0 where
-  pub labels : List ℕ
-  pub labelled : Labelled t labels weights
-  pub arranged : Arranged t labels members (get_or ends 0 []) numbers (get_or ends 1 [])
-  pub enough : 64 * most_members t labels + 64 + 4 * link_count t ≤ room
-
--- the ports in the order of their labels, with their ends; the ends of the connections are still to come
-pub record MembersSorted (t : Table) (labels : List ℕ) (ends : List (List ℕ)) (members : List ℕ) : Type 0 where
-  pub members₀ : List ℕ
-  pub most : ℕ
-  pub sorted : Sorted (labels_of t labels) (port_count t) (get_or ends 0 []) members₀ members most
-  pub both : length ends ≡ 2
-  pub cleared : get_or ends 1 [] ≡ replicate 65 0

@@ -1,9 +1,11 @@
 -- The bytes of the first elements of a list: how many, and written at the front of a buffer.
 use Prim.Native.Nat.{ℕ, zero, suc, ◌+◌, ◌≤◌, ◌<◌}
-use Rattle.std.specs.Prelude.{◌≡◌, length, take, get_or}
+use Rattle.std.specs.Prelude.{◌≡◌, length, take, get_or, map, sum}
+use Rattle.std.specs.List.{range_with_len}
+use Rattle.std.proofs.lemmas.List.FromFn.{sum_by-map-range_with_len_more}
 use Rattle.std.proofs.Math.Path.{refl}
 use mathlib.Core.List.{List, [], ◌∷◌, ◌++◌, flat_map, append-nil, append_assoc}
-use Rattle.std.proofs.Common.{add-one, arith, take_all}
+use Rattle.std.proofs.Common.{ap, ◌∙◌, add-one, arith, take_all}
 use Rattle.std.proofs.Math.ListN.{length-append}
 use Rattle.specification.specs.Bytes.{Written}
 use Rattle.records.specs.WrittenLaws.{written_length, part_at, put_back, written_append}
@@ -25,6 +27,21 @@ module _ {A : Type 0} (enc : A → List ℕ) (d : A) where
   bytes_within_lem (x ∷ xs) zero h = omega (arith, length-append (enc x) (flat_map enc xs))
   bytes_within_lem (x ∷ xs) (suc k) h =
       omega (arith, length-append (enc x) (flat_map enc xs), length-append (enc x) (bytes_of xs k), bytes_within_lem xs k (omega arith))
+
+  -- the lengths of the first k, one by one
+  abbrev pub sizes_of : List A → ℕ → List ℕ
+  sizes_of xs k = map (λ i. length (enc (get_or xs i d))) (range_with_len 0 k)
+
+  sizes_are : (xs : List A) (k : ℕ) → k ≤ length xs → sum (sizes_of xs k) ≡ length (bytes_of xs k)
+  unfolding flat_map
+  sizes_are xs zero h = refl
+  sizes_are xs (suc k) h =
+      let more = sum_by-map-range_with_len_more (λ (n : ℕ). n) (λ i. length (enc (get_or xs i d))) 0 k k (omega arith) in
+      let on = bytes_more xs k (omega arith) in
+      (rw (add-one k) at more) ∙ omega (arith, sizes_are xs k (omega arith), ap length on, length-append (bytes_of xs k) (enc (get_or xs k d)))
+
+  pub sizes_all : (xs : List A) (k : ℕ) → k ≡ length xs → sum (sizes_of xs k) ≡ length (flat_map enc xs)
+  sizes_all xs k all = rw (take_all k xs (omega arith)) at (sizes_are xs k (omega arith))
 
   -- so many bytes are those of the first k
   pub record Counted (xs : List A) (size k : ℕ) : Type 0 where

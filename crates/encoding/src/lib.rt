@@ -1,4 +1,5 @@
-// A table in slices as bytes: how many there are, and the records, one behind the other.
+// A table in slices as bytes: how many there are, and the records, one behind the other. The slices stand alone, and not in a `Table`: a joined
+// table may have no port, and so need not be well-formed (`join`).
 #![tactic(auto)]
 
 ghost use Rattle.std.specs.Prelude.{◌≡◌, ◌≤◌, ◌<◌, length, get_or};
@@ -12,32 +13,24 @@ use table::{links, ports};
 
 pub mod record;
 
+// By the number of the kind, as the definition `encode_link` goes.
+#[tactic(auto, using(crate::specs::EncodingLaws::link_length))]
 pub fn link_size(links: &[u32], k: usize) -> usize
     requires { k < length (links_of links.now) }
     ensures { result ≡ length (encode_link (get_or (links_of links.now) k no_link)) }
 {
-    let kind = links::kind(links, k);
-    if kind == 3 {
-        return 16;
+    match links::link(links, k).kind {
+        3 => 16,
+        4 => 24,
+        _ => 20,
     }
-    if kind == 4 {
-        return 24;
-    }
-    20
 }
 
 fn links_size(links: &[u32]) -> usize
     requires { LinksFit (links_of links.now) }
     ensures { result ≡ length (encode_links (links_of links.now)) }
 {
-    let count = links::count(links);
-    let mut size: usize = 0;
-    let mut k: usize = 0;
-    while k < count {
-        size = size + link_size(links, k);
-        k = k + 1;
-    }
-    size
+    (0..links::count(links)).map(|k| link_size(links, k)).sum()
 }
 
 pub fn table_size(ports: &[u32], links: &[u32]) -> usize
@@ -48,16 +41,14 @@ pub fn table_size(ports: &[u32], links: &[u32]) -> usize
     8 * ports::count(ports) + links_size(links)
 }
 
+// This loop and that of the links stay two: over a closure, one needs a clause on each front of what the closure gives, and is no plainer.
 fn write_ports(ports: &[u32], out: &mut [u8]) -> usize
     requires { length (encode_ports (ports_of ports.now)) ≤ length out.old }
     ensures { Written (encode_ports (ports_of ports.now)) out.old out.new result }
 {
-    let count = ports::count(ports);
     let mut at: usize = 0;
-    let mut p: usize = 0;
-    while p < count {
-        at = at + record::write_port(&mut out[at..], ports::at(ports, p));
-        p = p + 1;
+    for p in 0..ports::count(ports) {
+        at += record::write_port(&mut out[at..], ports::port(ports, p));
     }
     at
 }
@@ -67,12 +58,9 @@ fn write_links(links: &[u32], out: &mut [u8]) -> usize
     requires links_in_bounds { length (encode_links (links_of links.now)) ≤ length out.old }
     ensures { Written (encode_links (links_of links.now)) out.old out.new result }
 {
-    let count = links::count(links);
     let mut at: usize = 0;
-    let mut k: usize = 0;
-    while k < count {
-        at = at + record::write_link(&mut out[at..], links::at(links, k));
-        k = k + 1;
+    for k in 0..links::count(links) {
+        at += record::write_link(&mut out[at..], links::link(links, k));
     }
     at
 }

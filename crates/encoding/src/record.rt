@@ -1,4 +1,5 @@
-// Writes one record of a table into the part of a buffer that begins at its place.
+// Writes one record of a table into the part of a buffer that begins at its place. Lengths and kinds are the numbers that the definitions have
+// (`encode_port`, `encode_link`). That a link fits its ranges is a clause, and no type: `Link` is also what lies outside them.
 ghost use Rattle.std.specs.Prelude.{◌≡◌, ◌≤◌, length, ◌++◌};
 ghost use Rattle.std.proofs.lemmas.List.Edits.{sets};
 ghost use Rattle.specification.specs.Bytes.{bytes, encode, Written};
@@ -8,14 +9,16 @@ ghost use Rattle.table.specs.WellFormed.{LinkFits};
 use records::write::put_number;
 use specification::{Link, Port};
 
+#[tactic(auto, unfolding(specification::specs::Encoding::signed_word))]
 fn signed_word(forward: u64, back: u64) -> u64
     requires { back ≤ 4294967296 }
     ensures { result ≡ signed_word forward back }
 {
     if back == 0 {
-        return forward;
+        forward
+    } else {
+        4294967296 - back
     }
-    4294967296 - back
 }
 
 pub fn write_port(tail: &mut [u8], p: Port) -> usize
@@ -85,20 +88,19 @@ fn write_fraction(tail: &mut [u8], l: Link) -> usize
     put_number(tail, 0, 2, 22);
     put_number(tail, 2, 2, 4);
     put_connection(tail, l);
-    put_number(tail, 20, 4, l.over as u64);
+    put_number(tail, 20, 4, u64::from(l.over));
     24
 }
 
+#[tactic(auto, using(crate::specs::EncodingLaws::link_length, crate::specs::EncodingLaws::buffer_is, crate::specs::EncodingLaws::fraction_is, crate::specs::EncodingLaws::connection_is))]
 pub fn write_link(tail: &mut [u8], l: Link) -> usize
     requires l_in_bounds { length (encode_link l) ≤ length tail.old }
     requires link_fits { LinkFits 64 l }
     ensures { Written (encode_link l) tail.old tail.new result }
 {
-    if l.kind == 3 {
-        return write_buffer(tail, l);
+    match l.kind {
+        3 => write_buffer(tail, l),
+        4 => write_fraction(tail, l),
+        _ => write_connection(tail, l),
     }
-    if l.kind == 4 {
-        return write_fraction(tail, l);
-    }
-    write_connection(tail, l)
 }

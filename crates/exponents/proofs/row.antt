@@ -1,4 +1,2 @@
 -- Lemmas on rows, for the proofs of the functions of src/row.rt.
 mod Factors
-mod Places
-mod Equal

@@ -1,5 +1,5 @@
 -- Rows of exponents, and what the functions on rows ask and give.
-use Rattle.std.specs.Prelude.{ℕ, ◌+◌, ◌*◌, ◌-◌, ◌≤◌, ◌<◌, min, ◌≡◌, ◌≢◌, Bool, true, false, List, [], length, get_or, set}
+use Rattle.std.specs.Prelude.{ℕ, ◌+◌, ◌*◌, ◌-◌, ◌≤◌, ◌<◌, min, ◌≡◌, ◌≢◌, Bool, true, false, List, [], length, get_or}
 use Rattle.numbers.specs.Exponents.{powers}
 use Rattle.exponents.specs.Primes.{prime_at}
 
@@ -41,12 +41,10 @@ pub record RowAt (rows : List (List ℕ)) (p : ℕ) : Type 0 where
 pub record Lesser (a b r : List ℕ) : Type 0 where
   pub place : (i : ℕ) → i < 168 → get_or r i 0 ≡ min (get_or a i 0) (get_or b i 0)
 
--- row c of `least` took in the lesser exponents of row
-pub record TakenLesser (least : List (List ℕ)) (c : ℕ) (row : List ℕ) (least' : List (List ℕ)) : Type 0 where
-  pub lesser : List ℕ
-  pub made : least' ≡ set least c lesser
-  pub long : length lesser ≡ 168
-  pub is_lesser : Lesser (get_or least c []) row lesser
+-- `least` took in the lesser exponents of row
+pub record TakenLesser (least row least' : List ℕ) : Type 0 where
+  pub long : length least' ≡ 168
+  pub is_lesser : Lesser least row least'
 
 -- b is at most a in each place
 pub record Within (b a : List ℕ) : Type 0 where

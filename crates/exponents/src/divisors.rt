@@ -1,9 +1,6 @@
 // The least divisor above 1 of each number from 2 to 1,000, by a table.
-ghost use Rattle.std.specs.Prelude.{◌≡◌};
-ghost use Rattle.exponents.specs.Divisors.{least_divisors};
-
 // The least divisor at its number; the entries of 0 and 1 are 0.
-const LEAST: [u16; 1001] = [
+pub const LEAST: [u16; 1001] = [
     0, 0, 2, 3, 2, 5, 2, 7, 2, 3, 2, 11, 2, 13, 2, 3, 2, 17, 2, 19, 2, 3, 2, 23, 2, 5, 2, 3, 2, 29,
     2, 31, 2, 3, 2, 5, 2, 37, 2, 3, 2, 41, 2, 43, 2, 3, 2, 47, 2, 7, 2, 3, 2, 53, 2, 5, 2, 3, 2,
     59, 2, 61, 2, 3, 2, 5, 2, 67, 2, 3, 2, 71, 2, 73, 2, 3, 2, 7, 2, 79, 2, 3, 2, 83, 2, 5, 2, 3,
@@ -41,10 +38,3 @@ const LEAST: [u16; 1001] = [
     5, 2, 3, 2, 7, 2, 31, 2, 3, 2, 5, 2, 967, 2, 3, 2, 971, 2, 7, 2, 3, 2, 977, 2, 11, 2, 3, 2,
     983, 2, 5, 2, 3, 2, 23, 2, 991, 2, 3, 2, 5, 2, 997, 2, 3, 2,
 ];
-
-// The whole table. An index into a constant copies all of it, so callers take it once and lend it.
-pub fn least_divisors() -> [u16; 1001]
-    ensures { result ≡ least_divisors }
-{
-    LEAST
-}

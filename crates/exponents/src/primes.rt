@@ -1,6 +1,6 @@
 // The primes up to 1,000 and their places, by tables.
 ghost use Rattle.std.specs.Prelude.{◌≡◌};
-ghost use Rattle.exponents.specs.Primes.{primes, places};
+ghost use Rattle.exponents.specs.Primes.{primes};
 
 // The 168 primes in order.
 const PRIMES: [u16; 168] = [
@@ -16,7 +16,7 @@ const PRIMES: [u16; 168] = [
 ];
 
 // The place of each prime in PRIMES; 0 at the other numbers.
-const PLACE: [u16; 1001] = [
+pub const PLACE: [u16; 1001] = [
     0, 0, 0, 1, 0, 2, 0, 3, 0, 0, 0, 4, 0, 5, 0, 0, 0, 6, 0, 7, 0, 0, 0, 8, 0, 0, 0, 0, 0, 9, 0,
     10, 0, 0, 0, 0, 0, 11, 0, 0, 0, 12, 0, 13, 0, 0, 0, 14, 0, 0, 0, 0, 0, 15, 0, 0, 0, 0, 0, 16,
     0, 17, 0, 0, 0, 0, 0, 18, 0, 0, 0, 19, 0, 20, 0, 0, 0, 0, 0, 21, 0, 0, 0, 22, 0, 0, 0, 0, 0,
@@ -59,11 +59,4 @@ pub fn all() -> [u16; 168]
     ensures { result ≡ primes }
 {
     PRIMES
-}
-
-// The place of each prime.
-pub fn all_places() -> [u16; 1001]
-    ensures { result ≡ places }
-{
-    PLACE
 }

@@ -1,53 +1,44 @@
 // The quotient of the numbers that two rows stand for, multiplied out up to a bound.
-ghost use Rattle.std.specs.Prelude.{◌≡◌, ◌*◌, ◌^◌, min, [], get_or};
+ghost use Rattle.std.specs.Prelude.{◌≡◌, ◌*◌, ◌^◌};
 ghost use Rattle.numbers.specs.Exponents.{powers};
 ghost use Rattle.exponents.specs.Primes.{primes, prime_at};
-ghost use Rattle.exponents.specs.Row.{RowAt, Within, SameAbove, excess};
-ghost use Rattle.exponents.specs.Product.{Factors};
+ghost use Rattle.exponents.specs.Row.{Within, SameAbove, excess};
+ghost use Rattle.exponents.specs.Product.{Factors, UpToBound};
 
 use crate::row::Row;
-use crate::wide;
 
-// x times p to the power e, or 10,001 where that is less.
-#[tactic(auto, using(crate::proofs::product::Bounded::powered_past))]
-fn times_power(x: u64, p: u64, e: u16) -> u64
+// No product above it is returned.
+const BOUND: u64 = 10_000;
+
+// x times p to the power e, if that is at most 10,000.
+fn times_power(x: u64, p: u64, e: u16) -> Option<u64>
     requires { Factors x p }
-    ensures { result ≡ min (x * p ^ e) 10001 }
+    ensures { UpToBound (x * p ^ e) result }
 {
     let mut product = x;
-    let mut left = e;
-    while 0 < left && product <= 10000 {
-        product = product * p;
-        left = left - 1;
+    for _ in 0..e {
+        product *= p;
+        if BOUND < product {
+            return None;
+        }
     }
-    if product <= 10000 { product } else { 10001 }
+    Some(product)
 }
 
-// The number that row p of `rows` stands for, divided by that of row c of `least`, or 10,001 where that is less. Above `most` the two rows
-// are equal.
-pub fn quotient_within(
-    rows: &[Row; 64],
-    p: usize,
-    least: &[Row; 64],
-    c: usize,
-    most: u64,
-    all: &[u16],
-) -> u64
+// The number that a row stands for, divided by that of `least`, if that is at most 10,000. Above `most` the two rows are equal.
+pub fn quotient_within(row: &Row, least: &Row, most: u64, all: &[u16]) -> Option<u64>
     requires all_value { all.now ≡ primes }
-    requires row_at { (RowAt rows.now p) × (RowAt least.now c) }
-    requires within { Within (get_or least.now c []) (get_or rows.now p []) }
-    requires same_above { SameAbove (get_or least.now c []) (get_or rows.now p []) most }
-    ensures { result ≡ min (powers prime_at (excess (get_or least.now c []) (get_or rows.now p [])) 168) 10001 }
+    requires within { Within least.now row.now }
+    requires same_above { SameAbove least.now row.now most }
+    ensures { UpToBound (powers prime_at (excess least.now row.now) 168) result }
 {
-    let mut product: u64 = 1;
-    let mut i: usize = 0;
-    while i < 168 && product <= 10000 {
-        let prime = wide(all[i]);
+    let mut product = 1;
+    for (i, &p) in all.iter().enumerate() {
+        let prime = u64::from(p);
         if most < prime {
-            return product;
+            break;
         }
-        product = times_power(product, prime, rows[p][i] - least[c][i]);
-        i = i + 1;
+        product = times_power(product, prime, row[i] - least[i])?;
     }
-    product
+    Some(product)
 }

@@ -1,9 +1,11 @@
 -- The three files of a join, read in turn, and the line of those that make none.
-use Rattle.std.specs.Prelude.{ℕ, ◌≤◌, ◌<◌, Bool, true, false, cond, List, [], eqb, length, take}
+use Rattle.std.specs.Prelude.{Option, Some, None, ℕ, ◌≤◌, Bool, true, false, cond, List, [], eqb, length, take}
 use Rattle.specification.specs.Joining.{Join, join_of}
-use Rattle.input.specs.Input.{most_bytes, read_whole}
+use Rattle.input.specs.Input.{has_failed, read_whole, stop_of, read_failed}
 use Rattle.text.specs.Lines.{answer_line, not_whole_line}
 use Rattle.input.specs.declared.Input.{Input}
+use Rattle.input.specs.declared.Stop.{Stop}
+use Rattle.input.specs.declared.filled.Filled.{Filled}
 use Rattle.files.specs.declared.InTurn.{InTurn}
 
 -- what was read of a file, and whether a read of it failed, as where it cannot be opened
@@ -12,12 +14,10 @@ pub record File : Type 0 where
   pub failed : Bool
 
 abbrev pub file_of : (space : List ℕ) → Input → File
-file_of space read = record { bytes = take read.count space; failed = read.failed }
+file_of space read = record { bytes = take read.count space; failed = has_failed read.end }
 
--- a file was read into this space, which holds a byte more than is taken, so that a longer file shows
-pub record ReadInto (space : List ℕ) (read : Input) : Type 0 where
-  pub room : most_bytes < length space
-  pub within : read.count ≤ length space
+abbrev pub file_in : Filled → File
+file_in f = file_of f.space.now f.read
 
 -- ---- in turn
 -- a file in its turn: it was read whole, and so were those before it
@@ -29,18 +29,31 @@ unfoldable pub stop_failed : (first_whole first_failed second_whole second_faile
 stop_failed first_whole first_failed second_whole second_failed added_failed =
     cond first_whole (cond second_whole added_failed second_failed) first_failed
 
+-- why the first file that was not read whole was not, where there is one
+abbrev pub stopped_of : (whole failed : Bool) → Option Stop
+stopped_of whole failed = cond whole None (Some (stop_of failed))
+
+-- whether there is none
+abbrev pub all_whole : Option Stop → Bool
+all_whole None = true
+all_whole (Some stop) = false
+
+-- whether a read of it failed
+abbrev pub is_unread : Option Stop → Bool
+is_unread None = false
+is_unread (Some stop) = read_failed stop
+
 -- by how the reading of each ended
 unfoldable pub in_turn : (first second added : Input) → InTurn
 in_turn first second added =
-    let first_whole = whole_file true first.failed first.count in
-    let second_whole = whole_file first_whole second.failed second.count in
-    let added_whole = whole_file second_whole added.failed added.count in
+    let first_whole = whole_file true (has_failed first.end) first.count in
+    let second_whole = whole_file first_whole (has_failed second.end) second.count in
+    let added_whole = whole_file second_whole (has_failed added.end) added.count in
     record {
       first = cond first_whole first.count 0;
       second = cond second_whole second.count 0;
       added = cond added_whole added.count 0;
-      whole = added_whole;
-      failed = stop_failed first_whole first.failed second_whole second.failed added.failed;
+      stopped = stopped_of added_whole (stop_failed first_whole (has_failed first.end) second_whole (has_failed second.end) (has_failed added.end));
     }
 
 -- no more is given of a file than was read

@@ -3,93 +3,66 @@
 
 ghost use Rattle.std.specs.Prelude.{◌≡◌, cond, ◌≤◌, length};
 ghost use Rattle.specification.specs.Bytes.{Written};
-ghost use Rattle.files.specs.Files.{whole_file, stop_failed, in_turn, GivenAtMost, line_of, line_room};
+ghost use Rattle.files.specs.Files.{all_whole, is_unread, in_turn, GivenAtMost, line_of, line_room};
 
-use input::Input;
+use input::{Input, Stop};
 use text::print;
 
-// How many bytes of each file are given; whether all were read whole; and whether a read failed of the first that was not.
+// How many bytes of each file are given, and why the first that was not read whole was not.
 #[derive(Clone, Copy)]
 pub struct InTurn {
     pub first: usize,
     pub second: usize,
     pub added: usize,
-    pub whole: bool,
-    pub failed: bool,
-}
-
-// Whether a file was read whole, and those before it.
-fn whole_file(before: bool, read: Input) -> bool
-    ensures { result ≡ whole_file before read.failed read.count }
-{
-    before && input::whole(read)
+    pub stopped: Option<Stop>,
 }
 
 // How many of so many bytes are given: all where the files were read whole, else none.
-pub fn given(whole: bool, count: usize) -> usize
-    ensures value { result ≡ cond whole count 0 }
+pub fn given(stopped: Option<Stop>, count: usize) -> usize
+    ensures value { result ≡ cond (all_whole stopped) count 0 }
     ensures within { result ≤ count }
 {
-    if whole {
-        return count;
+    match stopped {
+        None => count,
+        Some(_) => 0,
     }
-    0
 }
 
-// Whether a read failed of the first file that was not read whole.
-fn stop_failed(
-    first_whole: bool,
-    first: Input,
-    second_whole: bool,
-    second: Input,
-    added: Input,
-) -> bool
-    ensures { result ≡ stop_failed first_whole first.failed second_whole second.failed added.failed }
-{
-    if !first_whole {
-        return first.failed;
-    }
-    if !second_whole {
-        return second.failed;
-    }
-    added.failed
-}
-
+// A file that was not read whole stops those behind it.
 pub fn in_turn(first: Input, second: Input, added: Input) -> InTurn
     ensures value { result ≡ in_turn first second added }
     ensures within { GivenAtMost first second added result }
 {
-    let first_whole = whole_file(true, first);
-    let second_whole = whole_file(first_whole, second);
-    let whole = whole_file(second_whole, added);
-    let failed = stop_failed(first_whole, first, second_whole, second, added);
+    let first_whole = first.whole();
+    let second_whole = first_whole.and(second.whole());
+    let added_whole = second_whole.and(added.whole());
     InTurn {
-        first: given(first_whole, first.count),
-        second: given(second_whole, second.count),
-        added: given(whole, added.count),
-        whole,
-        failed,
+        first: first_whole.unwrap_or(0),
+        second: second_whole.unwrap_or(0),
+        added: added_whole.unwrap_or(0),
+        stopped: added_whole.err(),
     }
 }
 
-// How many bytes at the front of a program's two buffers are the table and the line that it writes.
+// How many bytes at the front of a program's two buffers are the table and the line that it writes. The buffers are the program's own.
 #[derive(Clone, Copy)]
 pub struct Lengths {
     pub written: usize,
     pub line: usize,
 }
 
-// The line of a fault, else of the first file that was not read whole; none where all were.
+// The line of a fault, else of the first file that was not read whole; none where all were. The number is that of an outcome, as C has it. The
+// room for it is a clause, here and in the crates above: an array would ask for one length.
 #[tactic(auto, unfolding(crate::specs::Files::line_of, text::specs::Printed::printed, text::specs::Printed::record_lines))]
-pub fn print_line(number: u64, place: usize, whole: bool, failed: bool, text: &mut [u8]) -> usize
+pub fn print_line(number: u64, place: usize, stopped: Option<Stop>, text: &mut [u8]) -> usize
     requires { line_room ≤ length text.old }
-    ensures { Written (line_of number place whole failed) text.old text.new result }
+    ensures { Written (line_of number place (all_whole stopped) (is_unread stopped)) text.old text.new result }
 {
     if number != 0 {
         return print::print(number, place, b"", text);
     }
-    if whole {
-        return 0;
+    match stopped {
+        None => 0,
+        Some(stop) => print::print_not_whole(stop, text),
     }
-    print::print_not_whole(failed, text)
 }

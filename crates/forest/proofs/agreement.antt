@@ -1,5 +1,3 @@
 -- What the proofs on agreement use.
-mod Compared
-mod Parallels
-mod TreeLinks
-mod Scanned
+pub mod Compared
+pub mod Parallels

@@ -1,10 +1,9 @@
 -- What the proofs of the loops use.
-mod Parents
 mod Inserted
 mod Standing
 mod Copying
-mod Starting
+pub mod Starting
 mod Leaving
 mod Turns
-mod Writing
-mod Ending
+pub mod Writing
+pub mod Ending

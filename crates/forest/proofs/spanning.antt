@@ -1,8 +1,8 @@
 -- What the proofs of the spanning forest use.
-mod Numbers
-mod Rooting
-mod Starting
-mod Following
-mod Extending
-mod Passing
-mod Spanning
+pub mod Numbers
+pub mod Rooting
+pub mod Starting
+pub mod Following
+pub mod Extending
+pub mod Passing
+pub mod Spanning

@@ -55,10 +55,6 @@ pub record Climb (t : Table) (labels reach via : List ℕ) (k a b : ℕ) (up dow
   pub few_a : length up + length down + get_or reach a 0 ≤ 64
   pub few_b : length up + length down + get_or reach b 0 ≤ 64
 
--- room for the steps down
-pub record DownRoom (down : List ℕ) : Type 0 where
-  pub long : length down ≡ 128
-
 -- and its steps are written
 pub record Climbing (t : Table) (labels reach via : List ℕ) (k : ℕ) (numbers down : List ℕ) (next first a b : ℕ) : Type 0 where
   pub up : List Step

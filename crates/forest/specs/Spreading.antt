@@ -1,5 +1,5 @@
 -- A forest while it spreads over the links: its ports in the order reached, and what one link and one pass do.
-use Rattle.std.specs.Prelude.{ℕ, ◌+◌, ◌*◌, ◌≤◌, ◌<◌, min, ◌≡◌, ◌⊎◌, ◌≢◌, List, length, get_or, set, replicate}
+use Rattle.std.specs.Prelude.{ℕ, ◌+◌, ◌*◌, ◌≤◌, ◌<◌, min, ◌≡◌, ◌⊎◌, ◌≢◌, List, length, get_or, set}
 use Rattle.exponents.specs.Primes.{prime_at}
 use Rattle.exponents.specs.Row.{row_value}
 use Rattle.numbers.specs.Lists.{sum}
@@ -7,13 +7,8 @@ use Rattle.table.specs.WellFormed.{PartFits}
 use Rattle.specification.specs.Table.{Table, link_count, IsPort, IsLink, from, to}
 use Rattle.specification.specs.Ratios.{Component}
 use Rattle.forest.specs.Forest.{HasEnds}
+use Rattle.forest.specs.declared.spanning.Growing.{Growing}
 use Rattle.forest.specs.PortRows.{row_of, Fits, Near, PartsAtMost, RowsUpTo}
-
--- the order in which the ports were reached, from 1 on (0: not yet), the link over which each was, and how many are
-pub record PartForest : Type 0 where
-  pub reach : List ℕ
-  pub via : List ℕ
-  pub count : ℕ
 
 -- count ports are reached, each with a number of its own up to count
 pub record Numbered (reach : List ℕ) (count : ℕ) : Type 0 where
@@ -22,24 +17,12 @@ pub record Numbered (reach : List ℕ) (count : ℕ) : Type 0 where
   pub within : (p : ℕ) → get_or reach p 0 ≤ count
   pub order : (p q : ℕ) → 0 < get_or reach p 0 → get_or reach p 0 ≡ get_or reach q 0 → p ≡ q
 
-abbrev pub forest_of : List ℕ → List ℕ → ℕ → PartForest
-forest_of reach via count = record { reach = reach; via = via; count = count }
-
--- no port is reached
-pub record Unreached (reach via : List ℕ) : Type 0 where
-  pub no_reach : reach ≡ replicate 64 0
-  pub no_via : via ≡ replicate 64 0
-
 -- p is reached next, over link k
-abbrev pub entered : PartForest → ℕ → ℕ → PartForest
+abbrev pub entered : Growing → ℕ → ℕ → Growing
 entered f p k = record { reach = set f.reach p (f.count + 1); via = set f.via p k; count = f.count + 1 }
 
--- at most 64 ports
-pub record Rootable (n : ℕ) : Type 0 where
-  pub few : n ≤ 64
-
 -- of the ports below n those that are their own labels are reached, and no others
-pub record Rooted (n : ℕ) (labels : List ℕ) (f : PartForest) : Type 0 where
+pub record Rooted (n : ℕ) (labels : List ℕ) (f : Growing) : Type 0 where
   pub numbered : Numbered f.reach f.count
   pub via_long : length f.via ≡ 64
   pub all : (p : ℕ) → p < n → get_or labels p 0 ≡ p → 0 < get_or f.reach p 0
@@ -47,7 +30,7 @@ pub record Rooted (n : ℕ) (labels : List ℕ) (f : PartForest) : Type 0 where
   pub below : (p : ℕ) → 0 < get_or f.reach p 0 → p < n
 
 module _ (t : Table) where
-  module _ (f : PartForest) (rows : List (List ℕ)) where
+  module _ (f : Growing) (rows : List (List ℕ)) where
     -- p was reached over the link via p, which the rows fit, from a port that was reached before it
     pub record Child (p : ℕ) : Type 0 where
       pub parent : ℕ
@@ -71,12 +54,12 @@ module _ (t : Table) where
       pub up_to : (m : ℕ) → PartsAtMost t m → RowsUpTo rows m
 
   -- no link below n has just one end reached
-  pub record Closed (n : ℕ) (f : PartForest) : Type 0 where
+  pub record Closed (n : ℕ) (f : Growing) : Type 0 where
     pub along : (k : ℕ) → k < n → 0 < get_or f.reach (from t k) 0 → 0 < get_or f.reach (to t k) 0
     pub against : (k : ℕ) → k < n → 0 < get_or f.reach (to t k) 0 → 0 < get_or f.reach (from t k) 0
 
   -- the links below n make f' and rows of the forest f; where none reached a port, none can
-  pub record Passed (n : ℕ) (f f' : PartForest) (rows : List (List ℕ)) : Type 0 where
+  pub record Passed (n : ℕ) (f f' : Growing) (rows : List (List ℕ)) : Type 0 where
     pub within : n ≤ link_count t
     pub spreading : Spreading f' rows
     pub grown : f.count ≤ f'.count
@@ -104,23 +87,23 @@ module _ (rows : List (List ℕ)) (p q : ℕ) where
     pub above : (m i : ℕ) → (times ≢ by → times ≤ m) → (times ≢ by → by ≤ m) → i < 168 → m < prime_at i
         → get_or row i 0 ≡ get_or (row_of rows p) i 0
 
-module _ (f : PartForest) (rows : List (List ℕ)) (p q : ℕ) where
+module _ (f : Growing) (rows : List (List ℕ)) (p q : ℕ) where
   pub record Followable (times by : ℕ) : Type 0 where
     pub few : f.count ≤ 64
     pub spreadable : Spreadable rows p q times by
 
   -- q is reached from p over link k
-  pub record Extended (k times by : ℕ) (f' : PartForest) (rows' : List (List ℕ)) : Type 0 where
+  pub record Extended (k times by : ℕ) (f' : Growing) (rows' : List (List ℕ)) : Type 0 where
     pub reached : 0 < get_or f.reach p 0
     pub new : get_or f.reach q 0 ≡ 0
     pub made : f' ≡ entered f q k
     pub row_made : RowMade rows p q times by rows'
 
   -- p is not reached, or q is
-  pub record Unchanged (f' : PartForest) (rows' : List (List ℕ)) : Type 0 where
+  pub record Unchanged (f' : Growing) (rows' : List (List ℕ)) : Type 0 where
     pub same : f' ≡ f
     pub rows_same : rows' ≡ rows
     pub done : 0 < get_or f.reach p 0 → 0 < get_or f.reach q 0
 
-  pub record Followed (k times by : ℕ) (f' : PartForest) (rows' : List (List ℕ)) : Type 0 where
+  pub record Followed (k times by : ℕ) (f' : Growing) (rows' : List (List ℕ)) : Type 0 where
     pub case : Extended k times by f' rows' ⊎ Unchanged f' rows'

@@ -1,11 +1,15 @@
 -- Numbers of steps in a list: of each step the link's number and its direction, 0 along the link and 1 against it.
-use Rattle.std.specs.Prelude.{ℕ, ◌+◌, ◌≤◌, ◌<◌, ◌≡◌, List, [], ◌∷◌, length, get_or, eqb}
+use Rattle.std.specs.Prelude.{ℕ, ◌+◌, ◌≤◌, ◌<◌, ◌≡◌, List, [], ◌∷◌, length, get_or, eqb, Bool, cond}
 use Rattle.specification.specs.Ratios.{Step}
 use Rattle.forest.specs.Loop.{step_at}
 
 -- the step over a link in a direction
 abbrev pub step_of : ℕ → ℕ → Step
 step_of link against = record { number = link; against = eqb against 1 }
+
+-- the number for a step's direction
+abbrev pub direction : Bool → ℕ
+direction against = cond against 1 0
 
 -- room for one step at a place
 pub record StepRoom (numbers : List ℕ) (at : ℕ) : Type 0 where
@@ -24,17 +28,3 @@ pub data Stands (xs : List ℕ) : ℕ → List Step → Type 0 where
   none : {at : ℕ} → Stands xs at []
   more : {at : ℕ} {steps : List Step} (s : Step) → step_at xs at ≡ s → get_or xs (at + 1) 0 ≤ 1 → Stands xs (at + 2) steps
       → Stands xs at (s ∷ steps)
-
--- room at the place next for the numbers from first to before 128
-pub record CopyRoom (numbers : List ℕ) (next first : ℕ) : Type 0 where
-  pub least : first ≤ 128
-  pub most : next + 128 ≤ length numbers + first
-
--- ys is xs with the numbers of down from first to before end at the place next, up to before behind
-pub record Copied (down xs ys : List ℕ) (first next end behind : ℕ) : Type 0 where
-  pub same_length : length ys ≡ length xs
-  pub start : first ≤ end
-  pub within : end ≤ 128
-  pub places : behind + first ≡ end + next
-  pub before : (p : ℕ) → p < next → get_or ys p 0 ≡ get_or xs p 0
-  pub copied : (p q : ℕ) → first ≤ p → p < end → q + first ≡ p + next → get_or ys q 0 ≡ get_or down p 0

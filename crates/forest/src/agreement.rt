@@ -1,61 +1,28 @@
-// Whether rows of exponents fit the ratios of the links.
-ghost use Rattle.exponents.specs.Factor.{Lent};
-ghost use Rattle.table.specs.WellFormed.{WellFormed, LinkFits};
-ghost use Rattle.table.specs.Slices.{table_of};
-ghost use Rattle.std.specs.Prelude.{◌<◌, ◌≡◌};
+// Whether rows of exponents fit the ratios of the links. That they are rows of ports is a clause: they change while the forest spreads.
+ghost use Rattle.std.specs.Prelude.{◌<◌, ◌≡◌, MatchOption, IfSome};
+ghost use Rattle.specification.specs.Table.{link_count};
+ghost use Rattle.table.specs.Held.{table_in};
+ghost use Rattle.table.specs.WellFormed.{LinkFits};
 ghost use Rattle.forest.specs.PortRows.{PortRows, OverForest};
-ghost use Rattle.forest.specs.Agreement.{FitsRows, later_end, tree_link, is_parallel, KnownToFit, FirstConflict};
+ghost use Rattle.forest.specs.Agreement.{FitsRows, later_end, TreeLinked, tree_link, is_parallel, KnownToFit, FitBelow, FirstConflict};
 
+use crate::forest::Forest;
 use exponents::row;
 use exponents::row::Row;
+use exponents::tables::FactorTables;
 use specification::Link;
-use table::links;
-
-// The link over which a port was reached, if one was.
-#[derive(Clone, Copy)]
-struct Over {
-    reached: bool,
-    link: usize,
-}
 
 // Whether the rows of a link's ends fit its ratio.
-fn fits(l: Link, rows: &[Row; 64], divisors: &[u16], places: &[u16]) -> bool
+fn fits(l: Link, rows: &[Row; 64], tables: &FactorTables) -> bool
     requires link_fits { LinkFits 64 l }
     requires port_rows { PortRows rows.now }
-    requires lent { Lent divisors.now places.now }
     ensures { FitsRows l rows.now result }
 {
-    let from = l.from;
-    let to = l.to;
     if l.num == l.den {
-        return row::same_rows(rows, to, from);
-    }
-    let row = row::scaled(rows[to], l.num, l.den, divisors, places);
-    row::same(row, rows[from])
-}
-
-// The end of a link that was reached later.
-fn later(reach: &[usize; 64], p: usize, q: usize) -> usize
-    requires { (p < 64) × (q < 64) }
-    ensures { result ≡ later_end reach.now p q }
-{
-    if reach[p] < reach[q] { q } else { p }
-}
-
-// The link over which port p was reached; `other` stands for none, where p is the lowest port of its component.
-fn tree_link(labels: &[usize; 64], via: &[usize; 64], p: usize, other: usize) -> Over
-    requires { p < 64 }
-    ensures { result ≡ tree_link labels.now via.now p other }
-{
-    if labels[p] == p {
-        return Over {
-            reached: false,
-            link: other,
-        };
-    }
-    Over {
-        reached: true,
-        link: via[p],
+        row::same(&rows[l.to], &rows[l.from])
+    } else {
+        let row = row::scaled(rows[l.to], l.num, l.den, tables);
+        row::same(&row, &rows[l.from])
     }
 }
 
@@ -65,67 +32,61 @@ fn parallel(l: Link, m: Link) -> bool
     requires link_fits_2 { LinkFits 64 m }
     ensures { result ≡ is_parallel l m }
 {
-    let num = l.num;
-    let den = l.den;
-    if l.from == m.from {
-        if l.to == m.to {
-            return num * m.den == den * m.num;
-        }
+    if l.from == m.from && l.to == m.to {
+        l.num * m.den == l.den * m.num
+    } else {
+        l.from == m.to && l.to == m.from && l.num * m.num == l.den * m.den
     }
-    if l.from == m.to {
-        if l.to == m.from {
-            return num * m.num == den * m.den;
-        }
-    }
-    false
 }
 
-// Whether the rows fit link l. Where they fit m, as `known` says, and l is parallel to it, they are not compared.
-fn agrees(l: Link, known: bool, m: Link, rows: &[Row; 64], divisors: &[u16], places: &[u16]) -> bool
+// Whether the rows fit link l. If a link is known that they fit, and l is parallel to it, they are not compared.
+fn agrees(l: Link, known: Option<Link>, rows: &[Row; 64], tables: &FactorTables) -> bool
     requires link_fits { LinkFits 64 l }
-    requires link_fits_2 { LinkFits 64 m }
     requires port_rows { PortRows rows.now }
-    requires known_to_fit { KnownToFit m rows.now known }
-    requires lent { Lent divisors.now places.now }
+    requires known_to_fit { IfSome known (KnownToFit rows.now) }
     ensures { FitsRows l rows.now result }
 {
-    if known {
-        if parallel(l, m) {
-            return true;
-        }
+    match known {
+        Some(m) if parallel(l, m) => true,
+        _ => fits(l, rows, tables),
     }
-    fits(l, rows, divisors, places)
 }
 
-// The first link that the rows do not fit, or the number of links. One that is parallel to the forest's link between its ends, as that
-// link itself is, is not compared.
-pub fn conflict(
-    ports: &[u32],
-    links: &[u32],
-    labels: &[usize; 64],
-    reach: &[usize; 64],
-    via: &[usize; 64],
-    rows: &[Row; 64],
-    divisors: &[u16],
-    places: &[u16],
-) -> usize
-    requires well_formed { WellFormed (table_of ports.now links.now) }
-    requires port_rows { PortRows rows.now }
-    requires over_forest { OverForest (table_of ports.now links.now) labels.now via.now rows.now }
-    requires lent { Lent divisors.now places.now }
-    ensures { FirstConflict (table_of ports.now links.now) rows.now result }
-{
-    let count = links::count(links);
-    let mut k: usize = 0;
-    while k < count {
-        let l = links::at(links, k);
-        let at = later(reach, l.from, l.to);
-        let tree = tree_link(labels, via, at, k);
-        let m = links::at(links, tree.link);
-        if !agrees(l, tree.reached, m, rows, divisors, places) {
-            return k;
-        }
-        k = k + 1;
+impl<'a> Forest<'a> {
+    // The end of a link that was reached later.
+    fn later(&self, p: usize, q: usize) -> usize
+        requires { (p < 64) × (q < 64) }
+        ensures { result ≡ later_end self.now.reach p q }
+    {
+        if self.reach[p] < self.reach[q] { q } else { p }
     }
-    k
+
+    // The link over which port p was reached, if it is not the lowest of its component.
+    fn tree_link(&self, p: usize) -> Option<Link>
+        requires { TreeLinked (table_in self.now.table.now) self.now.labels.now self.now.via p }
+        ensures { result ≡ tree_link (table_in self.now.table.now) self.now.labels.now self.now.via p }
+    {
+        if self.labels[p] == p {
+            None
+        } else {
+            Some(self.table.link(self.via[p]))
+        }
+    }
+
+    // The first link that the rows do not fit. One that is parallel to the forest's link between its ends, as that link itself is, is not
+    // compared.
+    pub fn conflict(&self, rows: &[Row; 64], tables: &FactorTables) -> Option<usize>
+        requires port_rows { PortRows rows.now }
+        requires over_forest { OverForest (table_in self.now.table.now) self.now.labels.now self.now.via rows.now }
+        ensures { MatchOption result (FitBelow (table_in self.now.table.now) rows.now (link_count (table_in self.now.table.now))) (FirstConflict (table_in self.now.table.now) rows.now) }
+    {
+        for k in 0..self.table.link_count() {
+            let l = self.table.link(k);
+            let known = self.tree_link(self.later(l.from, l.to));
+            if !agrees(l, known, rows, tables) {
+                return Some(k);
+            }
+        }
+        None
+    }
 }

@@ -1,7 +1,10 @@
 // A spanning forest of a table's links with rows of exponents: agreement of the ratios, and the loop of a conflict.
 #![tactic(auto)]
 
-pub mod agreement;
-pub mod loops;
+mod agreement;
+mod forest;
+mod loops;
 pub mod parts;
-pub mod spanning;
+mod spanning;
+
+pub use forest::Forest;

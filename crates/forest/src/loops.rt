@@ -1,134 +1,95 @@
 // The loop that a link closes in the forest.
-ghost use Rattle.table.specs.Slices.{table_of};
+ghost use Rattle.table.specs.Held.{table_in};
 ghost use Rattle.forest.specs.Loop.{Closing, Closed};
-ghost use Rattle.forest.specs.StepNumbers.{StepRoom, Put, CopyRoom, Copied};
-ghost use Rattle.forest.specs.Climb.{Climbable, Parent, DownRoom, Met};
+ghost use Rattle.forest.specs.StepNumbers.{direction, StepRoom, Put};
+ghost use Rattle.forest.specs.Climb.{Climbable, Parent, Met};
 
-use table::links;
+use crate::forest::Forest;
 
 // The step from a port to its parent.
 #[derive(Clone, Copy)]
 struct Up {
     link: usize,
-    against: u64,
+    against: bool,
     parent: usize,
 }
 
-// The places behind the steps up, and of the first step down.
+// The places behind the steps up, and of the first step down: two buffers, of which one is filled from its end.
 #[derive(Clone, Copy)]
 struct Places {
     next: usize,
     first: usize,
 }
 
-// From port p over the link over which it was reached.
-fn parent(
-    ports: &[u32],
-    links: &[u32],
-    labels: &[usize; 64],
-    reach: &[usize; 64],
-    via: &[usize; 64],
-    p: usize,
-) -> Up
-    requires { Climbable (table_of ports.now links.now) labels.now reach.now via.now p }
-    ensures { Parent (table_of ports.now links.now) labels.now reach.now via.now p result.link result.against result.parent }
-{
-    let link = via[p];
-    let from = links::from(links, link);
-    let to = links::to(links, link);
-    if from == p {
-        Up {
-            link: link,
-            against: 0,
-            parent: to,
-        }
-    } else {
-        Up {
-            link: link,
-            against: 1,
-            parent: from,
-        }
-    }
-}
-
-// One step's numbers at a place.
-fn put_step(numbers: &mut [u64], at: usize, link: usize, against: u64)
+// One step's numbers at a place: its link, and 1 where it goes against that, else 0.
+fn put_step(numbers: &mut [u64], at: usize, link: usize, against: bool)
     requires { StepRoom numbers.old at }
-    ensures { Put numbers.old numbers.new at link against }
+    ensures { Put numbers.old numbers.new at link (direction against) }
 {
     numbers[at] = link as u64;
-    numbers[at + 1] = against;
+    numbers[at + 1] = u64::from(against);
 }
 
-// From both ends of k the climb goes over the forest, always from the end that was reached later, until both are one port.
-// The steps up stand in numbers behind k; the steps down to the sender are filled from the end.
-fn climb(
-    ports: &[u32],
-    links: &[u32],
-    labels: &[usize; 64],
-    reach: &[usize; 64],
-    via: &[usize; 64],
-    k: usize,
-    numbers: &mut [u64],
-    down: &mut [u64],
-) -> Places
-    requires closing { Closing (table_of ports.now links.now) labels.now reach.now via.now k numbers.old }
-    requires down_room { DownRoom down.old }
-    ensures { Met (table_of ports.now links.now) labels.now reach.now via.now k numbers.new down.new result.next result.first }
-{
-    put_step(numbers, 0, k, 0);
-    let mut next: usize = 2;
-    let mut first: usize = 128;
-    let mut a = links::to(links, k);
-    let mut b = links::from(links, k);
-    while a != b {
-        if reach[b] < reach[a] {
-            let up = parent(ports, links, labels, reach, via, a);
-            put_step(numbers, next, up.link, up.against);
-            next = next + 2;
-            a = up.parent;
+impl<'a> Forest<'a> {
+    // From port p over the link over which it was reached.
+    fn parent(&self, p: usize) -> Up
+        requires { Climbable (table_in self.now.table.now) self.now.labels.now self.now.reach self.now.via p }
+        ensures { Parent (table_in self.now.table.now) self.now.labels.now self.now.reach self.now.via p result.link (direction result.against) result.parent }
+    {
+        let link = self.via[p];
+        let l = self.table.link(link);
+        if l.from == p {
+            Up {
+                link,
+                against: false,
+                parent: l.to,
+            }
         } else {
-            let up = parent(ports, links, labels, reach, via, b);
-            first = first - 2;
-            put_step(down, first, up.link, 1 - up.against);
-            b = up.parent;
+            Up {
+                link,
+                against: true,
+                parent: l.from,
+            }
         }
     }
-    Places {
-        next: next,
-        first: first,
-    }
-}
 
-// Copies the numbers from first on to the place next. Returns the place behind them.
-fn append(numbers: &mut [u64], next: usize, down: &[u64; 128], first: usize) -> usize
-    requires { CopyRoom numbers.old next first }
-    ensures { Copied down.now numbers.old numbers.new first next 128 result }
-{
-    let mut from = first;
-    let mut to = next;
-    while from < 128 {
-        numbers[to] = down[from];
-        from = from + 1;
-        to = to + 1;
+    // From both ends of k the climb goes over the forest, always from the end that was reached later, until both are one port.
+    // The steps up stand in numbers behind k; the steps down to the sender are filled from the end.
+    fn climb(&self, k: usize, numbers: &mut [u64], down: &mut [u64; 128]) -> Places
+        requires { Closing (table_in self.now.table.now) self.now.labels.now self.now.reach self.now.via k numbers.old }
+        ensures { Met (table_in self.now.table.now) self.now.labels.now self.now.reach self.now.via k numbers.new down.new result.next result.first }
+    {
+        put_step(numbers, 0, k, false);
+        let mut next = 2;
+        let mut first = 128;
+        let l = self.table.link(k);
+        let mut a = l.to;
+        let mut b = l.from;
+        while a != b {
+            if self.reach[b] < self.reach[a] {
+                let up = self.parent(a);
+                put_step(numbers, next, up.link, up.against);
+                next += 2;
+                a = up.parent;
+            } else {
+                let up = self.parent(b);
+                first -= 2;
+                put_step(down, first, up.link, !up.against);
+                b = up.parent;
+            }
+        }
+        Places { next, first }
     }
-    to
-}
 
-// Writes the loop of link k: k itself from its sender to its receiver, then over the forest back to the sender. Returns its steps.
-pub fn close(
-    ports: &[u32],
-    links: &[u32],
-    labels: &[usize; 64],
-    reach: &[usize; 64],
-    via: &[usize; 64],
-    k: usize,
-    numbers: &mut [u64],
-) -> usize
-    requires { Closing (table_of ports.now links.now) labels.now reach.now via.now k numbers.old }
-    ensures { Closed (table_of ports.now links.now) labels.now via.now k numbers.new result }
-{
-    let mut down = [0u64; 128];
-    let places = climb(ports, links, labels, reach, via, k, numbers, &mut down);
-    append(numbers, places.next, &down, places.first) / 2
+    // Writes the loop of link k: k itself from its sender to its receiver, then over the forest back to the sender. Returns its steps.
+    pub fn close(&self, k: usize, numbers: &mut [u64]) -> usize
+        requires { Closing (table_in self.now.table.now) self.now.labels.now self.now.reach self.now.via k numbers.old }
+        ensures { Closed (table_in self.now.table.now) self.now.labels.now self.now.via k numbers.new result }
+    {
+        let mut down = [0; 128];
+        let places = self.climb(k, numbers, &mut down);
+        let end = places.next + (128 - places.first);
+        numbers[places.next..end].copy_from_slice(&down[places.first..]);
+        end / 2
+    }
 }

@@ -1,32 +1,20 @@
 // The parts of a table's ratios.
-ghost use Rattle.std.specs.Prelude.{◌≡◌, max};
-ghost use Rattle.table.specs.WellFormed.{WellFormed};
-ghost use Rattle.table.specs.Slices.{table_of};
+ghost use Rattle.std.specs.Prelude.{◌≡◌};
+ghost use Rattle.table.specs.Held.{table_in};
 ghost use Rattle.forest.specs.Parts.{greatest_part};
 
-use table::links;
+use table::Table;
 
-// The greatest part of a ratio, ratios of 1 aside; 0 where every ratio is 1.
-pub fn greatest_part(ports: &[u32], links: &[u32]) -> u64
-    requires { WellFormed (table_of ports.now links.now) }
-    ensures { result ≡ greatest_part (table_of ports.now links.now) }
+// The greatest part of a ratio, ratios of 1 aside; 0 where every ratio is 1, as its definition has it.
+pub fn greatest_part(table: &Table) -> u64
+    ensures { result ≡ greatest_part (table_in table.now) }
 {
-    let count = links::count(links);
     let mut most: u64 = 0;
-    let mut k: usize = 0;
-    while k < count {
-        let num = links::num(links, k);
-        let den = links::den(links, k);
-        if num != den {
-            most = larger(most, larger(num, den));
+    for k in 0..table.link_count() {
+        let l = table.link(k);
+        if l.num != l.den {
+            most = most.max(l.num.max(l.den));
         }
-        k = k + 1;
     }
     most
-}
-
-fn larger(x: u64, y: u64) -> u64
-    ensures { result ≡ max x y }
-{
-    if x < y { y } else { x }
 }

@@ -1,22 +1,16 @@
 // A spanning forest over the links of a table, with a row of prime exponents for each port.
-ghost use Rattle.table.specs.WellFormed.{WellFormed};
-ghost use Rattle.table.specs.Slices.{links_of, table_of};
+ghost use Rattle.std.specs.Prelude.{◌≡◌, ◌≤◌, ◌<◌, replicate};
+ghost use Rattle.specification.specs.Table.{link_count};
+ghost use Rattle.table.specs.Held.{table_in};
 ghost use Rattle.ways.specs.Labels.{Components};
-ghost use Rattle.std.specs.Prelude.{◌≡◌, length, replicate};
 ghost use Rattle.forest.specs.PortRows.{zero_row, Spanned};
-ghost use Rattle.forest.specs.Spreading.{forest_of, Unreached, Rootable, Rooted, Spreading, Spreadable, RowMade, Followable, Followed, Passed};
-ghost use Rattle.exponents.specs.Factor.{Lent};
+ghost use Rattle.forest.specs.Spreading.{entered, Rooted, Spreading, Spreadable, RowMade, Followable, Followed, Passed};
 
+use crate::forest::Forest;
 use exponents::row;
 use exponents::row::Row;
-use table::{links, ports};
-
-// The order in which the ports were reached, from 1 on, and the link over which each was.
-#[derive(Clone, Copy)]
-pub struct Forest {
-    pub reach: [usize; 64],
-    pub via: [usize; 64],
-}
+use exponents::tables::FactorTables;
+use table::Table;
 
 // A link from its end `from` to its end `to`: the row of `to` is that of `from` times `times`, divided by `by`.
 #[derive(Clone, Copy)]
@@ -28,159 +22,124 @@ struct Crossing {
     by: u64,
 }
 
-// From the lowest port of each component every other port is reached over one link; its row follows from that of the link's other end.
-// At first each row is that of exponent zero.
-// The last two slices are the tables that factors are looked up in.
-pub fn spanned(
-    ports: &[u32],
-    links: &[u32],
-    labels: &[usize; 64],
-    rows: &mut [Row; 64],
-    divisors: &[u16],
-    places: &[u16],
-) -> Forest
-    requires well_formed { WellFormed (table_of ports.now links.now) }
-    requires components { Components (table_of ports.now links.now) labels.now }
-    requires rows_value { rows.old ≡ replicate 64 zero_row }
-    requires lent { Lent divisors.now places.now }
-    ensures { Spanned (table_of ports.now links.now) labels.now result.reach result.via rows.new }
-{
-    let mut reach = [0usize; 64];
-    let mut via = [0usize; 64];
-    let mut count = roots(ports::count(ports), labels, &mut reach, &mut via);
-    loop {
-        let before = count;
-        count = pass(
-            ports, links, before, &mut reach, &mut via, rows, divisors, places,
-        );
-        if count == before {
-            return Forest { reach, via };
-        }
-    }
-}
-
-// The lowest port of each component, reached over no link. Returns how many these are.
-fn roots(
-    ports: usize,
-    labels: &[usize; 64],
-    reach: &mut [usize; 64],
-    via: &mut [usize; 64],
-) -> usize
-    requires rootable { Rootable ports }
-    requires unreached { Unreached reach.old via.old }
-    ensures { Rooted ports labels.now (forest_of reach.new via.new result) }
-{
-    let mut count: usize = 0;
-    let mut p: usize = 0;
-    while p < ports {
-        if labels[p] == p {
-            count = count + 1;
-            reach[p] = count;
-            via[p] = 0;
-        }
-        p = p + 1;
-    }
-    count
-}
-
-// One pass over the links: each with one end reached reaches the other. Before it so many ports are reached; returns how many are then.
-fn pass(
-    ports: &[u32],
-    links: &[u32],
-    before: usize,
-    reach: &mut [usize; 64],
-    via: &mut [usize; 64],
-    rows: &mut [Row; 64],
-    divisors: &[u16],
-    places: &[u16],
-) -> usize
-    requires well_formed { WellFormed (table_of ports.now links.now) }
-    requires spreading { Spreading (table_of ports.now links.now) (forest_of reach.old via.old before) rows.old }
-    requires lent { Lent divisors.now places.now }
-    ensures { Passed (table_of ports.now links.now) (length (links_of links.now)) (forest_of reach.old via.old before) (forest_of reach.new via.new result) rows.new }
-{
-    let last = links::count(links);
-    let mut count = before;
-    let mut k: usize = 0;
-    while k < last {
-        let from = links::from(links, k);
-        let to = links::to(links, k);
-        let num = links::num(links, k);
-        let den = links::den(links, k);
-        let along = Crossing {
-            link: k,
-            from,
-            to,
-            times: den,
-            by: num,
-        };
-        count = follow(count, reach, via, rows, along, divisors, places);
-        let against = Crossing {
-            link: k,
-            from: to,
-            to: from,
-            times: num,
-            by: den,
-        };
-        count = follow(count, reach, via, rows, against, divisors, places);
-        k = k + 1;
-    }
-    count
-}
-
-// Where only the end `from` is reached, the end `to` is, over the link.
-fn follow(
+// A forest while it spreads: the order in which the ports were reached, from 1 on (0: not yet, as the definition of a forest has it), the link over which each was, and how many
+// are.
+#[derive(Clone, Copy)]
+struct Growing {
+    reach: [usize; 64],
+    via: [usize; 64],
     count: usize,
-    reach: &mut [usize; 64],
-    via: &mut [usize; 64],
-    rows: &mut [Row; 64],
-    crossing: Crossing,
-    divisors: &[u16],
-    places: &[u16],
-) -> usize
-    requires followable { Followable (forest_of reach.old via.old count) rows.old crossing.from crossing.to crossing.times crossing.by }
-    requires lent { Lent divisors.now places.now }
-    ensures { Followed (forest_of reach.old via.old count) rows.old crossing.from crossing.to crossing.link crossing.times crossing.by (forest_of reach.new via.new result) rows.new }
-{
-    let from = crossing.from;
-    let to = crossing.to;
-    if reach[from] == 0 {
-        return count;
-    }
-    if reach[to] != 0 {
-        return count;
-    }
-    spread(
-        rows,
-        from,
-        to,
-        crossing.times,
-        crossing.by,
-        divisors,
-        places,
-    );
-    reach[to] = count + 1;
-    via[to] = crossing.link;
-    count + 1
 }
 
-// The row of q: p's times `times`, divided by `by`.
-fn spread(
-    rows: &mut [Row; 64],
-    p: usize,
-    q: usize,
-    times: u64,
-    by: u64,
-    divisors: &[u16],
-    places: &[u16],
-)
-    requires spreadable { Spreadable rows.old p q times by }
-    requires lent { Lent divisors.now places.now }
-    ensures { RowMade rows.old p q times by rows.new }
-{
-    if times == by {
-        rows[q] = rows[p];
-        return;
+impl<'a> Forest<'a> {
+    // From the lowest port of each component every other port is reached over one link; its row follows from that of the link's other end.
+    // At first each row is that of exponent zero.
+    pub fn spanning(
+        table: &'a Table<'a>,
+        labels: &'a [usize; 64],
+        rows: &mut [Row; 64],
+        tables: &FactorTables,
+    ) -> Forest<'a>
+        requires components { Components (table_in table.now) labels.now }
+        requires rows_value { rows.old ≡ replicate 64 zero_row }
+        ensures table { result.table.now ≡ table.now }
+        ensures labels { result.labels.now ≡ labels.now }
+        ensures spanned { Spanned (table_in table.now) labels.now result.reach result.via rows.new }
+    {
+        let mut growing = Growing::roots(table.port_count(), labels);
+        loop {
+            let before = growing.count;
+            growing.pass(table, rows, tables);
+            if growing.count == before {
+                return Forest {
+                    table,
+                    labels,
+                    reach: growing.reach,
+                    via: growing.via,
+                };
+            }
+        }
     }
-    rows[q] = row::scaled(rows[p], times, by, divisors, places);
+}
+
+impl Growing {
+    // The lowest port of each component, reached over no link.
+    fn roots(ports: usize, labels: &[usize; 64]) -> Growing
+        requires { ports ≤ 64 }
+        ensures { Rooted ports labels.now result }
+    {
+        let mut roots = Growing {
+            reach: [0; 64],
+            via: [0; 64],
+            count: 0,
+        };
+        for p in 0..ports {
+            if labels[p] == p {
+                roots.enter(p, 0);
+            }
+        }
+        roots
+    }
+
+    // Port p is reached next, over a link.
+    fn enter(&mut self, p: usize, link: usize)
+        requires p_in_bounds { p < 64 }
+        requires few { self.old.count ≤ 64 }
+        ensures { self.new ≡ entered self.old p link }
+    {
+        self.count += 1;
+        self.reach[p] = self.count;
+        self.via[p] = link;
+    }
+
+    // One pass over the links: each with one end reached reaches the other.
+    fn pass(&mut self, table: &Table, rows: &mut [Row; 64], tables: &FactorTables)
+        requires { Spreading (table_in table.now) self.old rows.old }
+        ensures { Passed (table_in table.now) (link_count (table_in table.now)) self.old self.new rows.new }
+    {
+        for k in 0..table.link_count() {
+            let l = table.link(k);
+            let along = Crossing {
+                link: k,
+                from: l.from,
+                to: l.to,
+                times: l.den,
+                by: l.num,
+            };
+            self.follow(rows, along, tables);
+            let against = Crossing {
+                link: k,
+                from: l.to,
+                to: l.from,
+                times: l.num,
+                by: l.den,
+            };
+            self.follow(rows, against, tables);
+        }
+    }
+
+    // Where only the end `from` is reached, the end `to` is, over the link.
+    fn follow(&mut self, rows: &mut [Row; 64], crossing: Crossing, tables: &FactorTables)
+        requires { Followable self.old rows.old crossing.from crossing.to crossing.times crossing.by }
+        ensures { Followed self.old rows.old crossing.from crossing.to crossing.link crossing.times crossing.by self.new rows.new }
+    {
+        if self.reach[crossing.from] != 0 && self.reach[crossing.to] == 0 {
+            crossing.spread(rows, tables);
+            self.enter(crossing.to, crossing.link);
+        }
+    }
+}
+
+impl Crossing {
+    // The row of `to`: that of `from` times `times`, divided by `by`.
+    fn spread(self, rows: &mut [Row; 64], tables: &FactorTables)
+        requires { Spreadable rows.old self.from self.to self.times self.by }
+        ensures { RowMade rows.old self.from self.to self.times self.by rows.new }
+    {
+        rows[self.to] = if self.times == self.by {
+            rows[self.from]
+        } else {
+            row::scaled(rows[self.from], self.times, self.by, tables)
+        };
+    }
 }

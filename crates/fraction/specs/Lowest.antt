@@ -103,11 +103,7 @@ lowest_above_zero {num} {den} p q =
     let h = lowest_is num den q in
     pos_of_ne-zero (λ e. omega (arith, h.equal, mul-pos p h.over, ap (λ (n : ℕ). n * den) e))
 
--- parts whose products fit 64 bits
-pub record Narrow (f : Fraction) : Type 0 where
-  pub num : f.num < 2 ^ 32
-  pub den : f.den < 2 ^ 32
-
+-- a product of parts below 2 ^ 32 fits 64 bits
 pub narrow_product : {x y : ℕ} → x < 2 ^ 32 → y < 2 ^ 32 → x * y < 2 ^ 64
 narrow_product {x} {y} h k = omega (arith, mul-le-mul {n₁ = x} {m₁ = y} {n₂ = 4294967295} {m₂ = 4294967295} (omega arith) (omega arith))
 

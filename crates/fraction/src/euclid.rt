@@ -5,12 +5,9 @@ ghost use Rattle.numbers.specs.Divisors.{gcd};
 pub fn greatest_common_divisor(a: u64, b: u64) -> u64
     ensures { result ≡ gcd a b }
 {
-    let mut x = a;
-    let mut y = b;
+    let (mut x, mut y) = (a, b);
     while y != 0 {
-        let rest = x % y;
-        x = y;
-        y = rest;
+        (x, y) = (y, x % y);
     }
     x
 }

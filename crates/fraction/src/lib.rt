@@ -1,12 +1,10 @@
 // Exact fractions, never negative: what periods and starts are made of.
 #![tactic(auto)]
 
-ghost use Rattle.std.specs.Prelude.{◌≡◌, ◌*◌, ◌^◌, ◌<◌, true};
-ghost use Rattle.numbers.specs.Divisors.{Coprime};
-ghost use Rattle.fraction.specs.Lowest.{lowest_terms, less_than, Narrow};
+ghost use Rattle.std.specs.Prelude.{◌≡◌, ◌*◌, ◌^◌, ◌<◌};
+ghost use Rattle.fraction.specs.Lowest.{lowest_terms, less_than};
 
 mod euclid;
-mod wide;
 
 #[derive(Clone, Copy)]
 pub struct Fraction {
@@ -44,36 +42,14 @@ impl Fraction {
         }
     }
 
-    // num / den, whose parts are in lowest terms already: for parts of a fraction that were stored.
-    pub fn from_lowest(num: u64, den: u64) -> Fraction
-        requires { (0 < den) × Coprime num den }
-        ensures { result ≡ lowest_terms num den }
-    {
-        Fraction { num, den }
-    }
-
-    // self < other, exact for all parts. Products of parts below 2^32 fit a word.
+    // self < other, exact for all parts. It is no PartialOrd: by its laws equal values would have equal parts, and parts need not be in lowest terms.
+    #[tactic(auto, unfolding(crate::specs::Lowest::less_than))]
     pub fn less(self, other: Fraction) -> bool
         ensures { result ≡ less_than self other }
     {
-        if self.narrow() {
-            if other.narrow() {
-                return self.num * other.den < other.num * self.den;
-            }
-        }
-        let left = wide::product(self.num, other.den);
-        let right = wide::product(other.num, self.den);
-        left.less(right)
-    }
-
-    // Both parts are below 2^32.
-    fn narrow(self) -> bool
-        ensures { result ≡ true → Narrow self }
-    {
-        if self.num < 4294967296 {
-            return self.den < 4294967296;
-        }
-        false
+        let left = u128::from(self.num) * u128::from(other.den);
+        let right = u128::from(other.num) * u128::from(self.den);
+        left < right
     }
 
     // self times a whole weight, in lowest terms.

@@ -1,4 +1,2 @@
--- What the proofs of the sorted connections use.
-mod Filling
+-- What the proofs of `write_owners` and `sort_connections` use.
 mod Owned
-mod Keys

@@ -1,10 +1,10 @@
--- The slices of a table's components: the ports and connections of each stand together.
-use Rattle.std.specs.Prelude.{ℕ, ◌+◌, ◌≡◌, List, length, take}
+-- A table with its components and weights, and the ports and connections of each component.
+use Rattle.std.specs.Prelude.{ℕ, ◌≡◌, List, length, take}
 use Rattle.table.specs.WellFormed.{WellFormed}
 use Rattle.specification.specs.Table.{Table, port_count, link_count}
 use Rattle.ways.specs.Labels.{Components}
 use Rattle.weights.specs.Weighed.{HasWeights}
-use Rattle.order.specs.Order.{keyed, most_keyed, Sorted}
+use Rattle.order.specs.Order.{keyed, most_keyed}
 use Rattle.graph.specs.Owners.{owners_of}
 
 -- a table with its components and weights
@@ -29,12 +29,3 @@ link_owners t labels = owners_of t labels (link_count t)
 pub record SlicesIn (t : Table) (labels : List ℕ) (c : ℕ) (members numbers : List ℕ) : Type 0 where
   pub members_are : members ≡ keyed (labels_of t labels) c (length (labels_of t labels))
   pub numbers_are : numbers ≡ keyed (link_owners t labels) c (length (link_owners t labels))
-
--- the ports in the order of their labels, the connections in that of their owners
-pub record Arranged (t : Table) (labels members member_ends numbers number_ends : List ℕ) : Type 0 where
-  pub members₀ : List ℕ
-  pub most_ports_lem : ℕ
-  pub ports : Sorted (labels_of t labels) (port_count t) member_ends members₀ members most_ports_lem
-  pub numbers₀ : List ℕ
-  pub most_links_lem : ℕ
-  pub links : Sorted (link_owners t labels) (port_count t + 1) number_ends numbers₀ numbers most_links_lem

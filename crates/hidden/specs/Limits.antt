@@ -1,18 +1,28 @@
 -- The lowest sender among the links into a port, and the limit that the rate of a hidden port puts on it.
-use Rattle.std.specs.Prelude.{ℕ, suc, ◌+◌, ◌≤◌, ◌<◌, ◌≡◌, Bool, true, cond, ◌≢◌, ltb, get_or}
-use Rattle.std.proofs.Math.Path.{sym, ap}
-use Rattle.std.proofs.Common.{◌∙◌, true≢false, add-one, arith, drop-cons, eq-eqb, ne_eqb}
+use Rattle.std.specs.Prelude.{ℕ, suc, ◌+◌, ◌-◌, ◌≤◌, ◌<◌, ◌≡◌, Bool, true, cond, ◌≢◌, ltb, get_or, Option, Some, None}
+use Rattle.std.proofs.Math.Path.{refl, sym, ap}
+use Rattle.std.specs.Bool.{then_some}
+use Rattle.std.proofs.Common.{◌∙◌, add-one, arith, take_all, drop-cons, eq-eqb, ne_eqb}
 use Rattle.std.proofs.Math.Bool.{false}
 use mathlib.Core.List.{List, [], ◌∷◌}
-use Rattle.std.proofs.Math.ListN.{length, drop}
+use Rattle.std.proofs.Math.ListN.{length, take, drop, length-drop}
 use Rattle.std.proofs.Math.Seq.{drop-length}
-use Rattle.numbers.specs.Lists.{keep}
+use Rattle.std.proofs.lemmas.Grind.{get_or_after_one}
 use Rattle.specification.specs.Table.{Table, no_link, port}
-use Rattle.specification.specs.Hiding.{goes_into, lowest_of, lowest_sender, carried_rate, slower, sender_link, sender, limit_rate, lowers}
+use Rattle.specification.specs.Hiding.{lowest_of, lowest_sender, carried_rate, slower, sender_link, sender, limit_rate, lowers}
 use Rattle.specification.specs.declared.Port.{Port}
 use Rattle.specification.specs.declared.Link.{Link}
-use Rattle.hidden.specs.declared.rate.Limit.{Limit}
-use Rattle.hidden.specs.Sides.{picked, Numbers}
+use Rattle.hidden.specs.declared.rate.Lowered.{Lowered}
+
+-- number i of those behind the first is number i + 1 of all
+pub record RestAt (xs : List ℕ) (i : ℕ) : Type 0 where
+  pub below : i + 1 < length xs
+  pub is : get_or (take (length xs - 1) (drop 1 xs)) i 0 ≡ get_or xs (i + 1) 0
+
+pub rest_at : (xs : List ℕ) (i : ℕ) → i < length (take (length xs - 1) (drop 1 xs)) → RestAt xs i
+rest_at xs i h =
+    let all : take (length xs - 1) (drop 1 xs) ≡ drop 1 xs = take_all (length xs - 1) (drop 1 xs) (omega (arith, length-drop 1 xs)) in
+    record { below = omega (arith, ap length all, length-drop 1 xs); is = rw all (get_or_after_one xs i 0 ∙ ap (λ (n : ℕ). get_or xs n 0) (omega arith)) }
 
 -- the lowest of the first i: what is left, put to it, gives the lowest of all
 pub record LowestFirst (xs : List Link) (lowest : Link) (i : ℕ) : Type 0 where
@@ -41,41 +51,25 @@ module _ {xs : List Link} {lowest : Link} {i : ℕ} (f : LowestFirst xs lowest i
       let e : i ≡ length xs = omega (arith, f.within) in
       sym (ap (lowest_of lowest) (ap (λ (n : ℕ). drop n xs) e ∙ drop-length xs)) ∙ f.is
 
--- the numbers of the links into port p, of which there is one
-pub record Senders (ls : List Link) (p : ℕ) (into : List ℕ) : Type 0 where
-  pub numbers : Numbers ls into
-  pub some : 0 < length into
-  pub are : picked ls into ≡ keep (goes_into p) ls
+-- the sender whose rate is lowered, and the rate that it then has
+abbrev pub lowered : Table → ℕ → Option Lowered
+lowered t p = cond (lowers t p) (Some (record { sender = sender t p; rate = limit_rate t p })) None
 
-pub sender_of : {ls : List Link} {p : ℕ} {into : List ℕ} {l : Link} → Senders ls p into → l ≡ lowest_sender (picked ls into) → l ≡ lowest_sender (keep (goes_into p) ls)
-sender_of s e = e ∙ ap lowest_sender s.are
+then_is : (b : Bool) (r : Lowered) → then_some b r ≡ cond b (Some r) None
+then_is true r = refl
+then_is false r = refl
 
--- whether the sender's rate is lowered, that sender, and the rate where it is lowered
-pub record IsLimit (t : Table) (p : ℕ) (r : Limit) : Type 0 where
-  pub lowers_is : r.lowers ≡ lowers t p
-  pub sender_is : r.sender ≡ sender t p
-  pub rate_is : lowers t p ≡ true → r.rate ≡ limit_rate t p
-
-module _ (t : Table) (p : ℕ) {l : Link} {hidden : Port} (sent : l ≡ sender_link t p) (own : hidden ≡ port t p) where
-  pub limit_none : hidden.num ≡ 0 → IsLimit t p (record { lowers = false; sender = l.from; rate = hidden })
+module _ (t : Table) (p : ℕ) {hidden : Port} (own : hidden ≡ port t p) where
+  pub none_lowered : hidden.num ≡ 0 → None ≡ lowered t p
   unfolding lowers
-  limit_none e =
-      let none_lowers : lowers t p ≡ false = rw (eq-eqb (port t p).num 0 (sym (ap (λ (x : Port). x.num) own) ∙ e)) in
-      record {
-        lowers_is = sym none_lowers;
-        sender_is = ap (λ (x : Link). x.from) sent;
-        rate_is = λ f. absurd (true≢false (sym f ∙ none_lowers));
-      }
+  none_lowered e = rw (eq-eqb (port t p).num 0 (sym (ap (λ (x : Port). x.num) own) ∙ e))
 
-  pub limit_some : {rate s : Port} {b : Bool} → hidden.num ≢ 0 → rate ≡ carried_rate hidden l → s ≡ port t l.from → b ≡ slower rate s
-      → IsLimit t p (record { lowers = b; sender = l.from; rate = rate })
+  pub some_lowered : {l : Link} {rate s : Port} {b : Bool} → l ≡ sender_link t p → hidden.num ≢ 0 → rate ≡ carried_rate hidden l → s ≡ port t l.from → b ≡ slower rate s
+      → then_some b (record { sender = l.from; rate = rate }) ≡ lowered t p
   unfolding lowers
-  limit_some {rate} {s} {b} d r e f =
+  some_lowered {l} {rate} {s} {b} sent d r e f =
       let rate_of : rate ≡ limit_rate t p = r ∙ ap (λ (x : Port). carried_rate x l) own ∙ ap (carried_rate (port t p)) sent in
-      record {
-        lowers_is =
-            rw (ne_eqb (port t p).num 0 (λ z. d (ap (λ (x : Port). x.num) own ∙ z)))
-            (f ∙ ap (λ (x : Port). slower x s) rate_of ∙ ap (slower (limit_rate t p)) (e ∙ ap (λ (x : Link). port t x.from) sent));
-        sender_is = ap (λ (x : Link). x.from) sent;
-        rate_is = λ _. rate_of;
-      }
+      let slow : b ≡ slower (limit_rate t p) (port t (sender t p)) =
+      f ∙ ap (λ (x : Port). slower x s) rate_of ∙ ap (slower (limit_rate t p)) (e ∙ ap (λ (x : Link). port t x.from) sent) in
+      rw (ne_eqb (port t p).num 0 (λ z. d (ap (λ (x : Port). x.num) own ∙ z)), ← slow)
+      (then_is b (record { sender = l.from; rate = rate }) ∙ ap (λ (r : Lowered). cond b (Some r) None) (λ i. record { sender = (sent i).from; rate = rate_of i }))

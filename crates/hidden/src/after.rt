@@ -1,92 +1,59 @@
 // The ports and links of a table without one of its ports, and their records.
-ghost use Rattle.std.specs.Prelude.{◌≡◌, ◌&&◌, ◌+◌, ◌*◌, ◌≤◌, ◌<◌, eqb, length, get_or};
+ghost use Rattle.std.specs.Prelude.{◌≡◌, ◌+◌, ◌≤◌, ◌<◌, length, get_or};
 ghost use Rattle.specification.specs.Bytes.{Written};
-ghost use Rattle.specification.specs.Table.{no_port, no_link, most_over};
+ghost use Rattle.specification.specs.Table.{no_port, no_link, most_over, port_count};
 ghost use Rattle.specification.specs.Encoding.{encode_ports, encode_links};
-ghost use Rattle.specification.specs.Hiding.{new_number, old_number, renumbered};
-ghost use Rattle.table.specs.Slices.{ports_of, links_of};
+ghost use Rattle.specification.specs.Hiding.{new_number, old_number, renumbered, value_leaves};
+ghost use Rattle.table.specs.Held.{table_in};
 ghost use Rattle.hidden.specs.ViaParts.{made_of};
-ghost use Rattle.hidden.specs.After.{ports_in, links_in, Split};
+ghost use Rattle.hidden.specs.OfSides.{lowered_in, table_after};
+ghost use Rattle.hidden.specs.Without.{CanWrite};
+ghost use Rattle.hidden.specs.HiddenIn.{HiddenIn, outcome};
 
-use crate::rate::Limit;
+use crate::rate::Lowered;
+use crate::sides::Sides;
 use crate::via::Made;
-use crate::{sides, via};
+use crate::{rate, via};
 use encoding::record;
-use specification::{Events, Link, Port};
-use table::ports;
+use refusals::Refusal;
+use specification::{Events, Link, Port, limits};
 
+#[tactic(auto, unfolding(specification::specs::Hiding::new_number))]
 fn new_number(q: usize, p: usize) -> usize
     ensures { result ≡ new_number p q }
 {
-    if p < q {
-        return q - 1;
-    }
-    q
+    if p < q { q - 1 } else { q }
 }
 
 fn renumber(l: Link, p: usize) -> Link
     ensures { result ≡ renumbered p l }
 {
-    let mut next = l;
-    next.from = new_number(l.from, p);
-    next.to = new_number(l.to, p);
-    next
+    Link {
+        from: new_number(l.from, p),
+        to: new_number(l.to, p),
+        ..l
+    }
 }
 
-// A new connection whose values are within their ranges.
+// A new connection whose values are within their ranges. Its kind is the number that the definition `via` gives.
 fn link_of(m: Made) -> Link
     requires { m.delta.over ≤ most_over }
     ensures { result ≡ made_of m }
 {
-    let ticks = m.ticks;
     let delta = m.delta;
     Link {
         from: m.from,
         to: m.to,
         num: m.num,
         den: m.den,
-        ticks,
+        ticks: m.ticks,
         events: Events(delta.forward, delta.back),
         over: delta.over as u32,
         kind: 4,
     }
 }
 
-// Link k of the table without port p: those apart from it, then the new connections.
-fn link_after(links: &[u32], into: &[u8], from: &[u8], apart: &[u8], p: usize, k: usize) -> Link
-    requires split { Split (links_of links.now) into.now from.now apart.now }
-    requires k_in_bounds { k < length apart.now + length into.now * length from.now }
-    ensures { result ≡ get_or (links_in (links_of links.now) into.now from.now apart.now p) k no_link }
-{
-    if k < apart.len() {
-        return renumber(sides::link_at(links, apart, k), p);
-    }
-    let made = via::made_at(links, into, from, k - apart.len());
-    renumber(link_of(made), p)
-}
-
-pub fn write_links(
-    links: &[u32],
-    into: &[u8],
-    from: &[u8],
-    apart: &[u8],
-    p: usize,
-    out: &mut [u8],
-) -> usize
-    requires split { Split (links_of links.now) into.now from.now apart.now }
-    requires room { length (encode_links (links_in (links_of links.now) into.now from.now apart.now p)) ≤ length out.old }
-    ensures { Written (encode_links (links_in (links_of links.now) into.now from.now apart.now p)) out.old out.new result }
-{
-    let count = apart.len() + into.len() * from.len();
-    let mut at: usize = 0;
-    let mut k: usize = 0;
-    while k < count {
-        at = at + record::write_link(&mut out[at..], link_after(links, into, from, apart, p, k));
-        k = k + 1;
-    }
-    at
-}
-
+#[tactic(auto, unfolding(specification::specs::Hiding::old_number))]
 fn old_number(q: usize, p: usize) -> usize
     requires { q < 64 }
     ensures { result ≡ old_number p q }
@@ -94,43 +61,83 @@ fn old_number(q: usize, p: usize) -> usize
     if q < p { q } else { q + 1 }
 }
 
-fn lowers_port(limit: Limit, q: usize) -> bool
-    ensures { result ≡ (limit.lowers && eqb q limit.sender) }
-{
-    if limit.lowers {
-        return q == limit.sender;
+impl<'a> Sides<'a> {
+    // Link k of the table without the port: those apart from it, then the new connections.
+    fn link_after(&self, k: usize) -> Link
+        requires can { CanWrite (table_in self.now.table.now) self.now.port }
+        requires k_in_bounds { k < length (table_after self.now).links }
+        ensures { result ≡ get_or (table_after self.now).links k no_link }
+    {
+        let kept = self.apart.len();
+        let l = if k < kept {
+            self.link(self.apart[k])
+        } else {
+            link_of(via::made_at(self, k - kept))
+        };
+        renumber(l, self.port)
     }
-    false
-}
 
-// Port q of the table without port p.
-fn port_after(ports: &[u32], limit: Limit, p: usize, q: usize) -> Port
-    requires p_in_bounds { p < length (ports_of ports.now) }
-    requires sender_in_bounds { limit.sender < length (ports_of ports.now) }
-    requires q_in_bounds { q + 1 < length (ports_of ports.now) }
-    requires ports_len_bound { length (ports_of ports.now) ≤ 64 }
-    ensures { result ≡ get_or (ports_in limit (ports_of ports.now) p) q no_port }
-{
-    let old = old_number(q, p);
-    if lowers_port(limit, old) {
-        return limit.rate;
+    // This loop and that of the ports stay two: over a closure, one needs a clause on each front of what the closure gives, and is no plainer.
+    fn write_links(&self, out: &mut [u8]) -> usize
+        requires can { CanWrite (table_in self.now.table.now) self.now.port }
+        requires room { length (encode_links (table_after self.now).links) ≤ length out.old }
+        ensures { Written (encode_links (table_after self.now).links) out.old out.new result }
+    {
+        let mut at = 0;
+        for k in 0..self.link_count() {
+            at += record::write_link(&mut out[at..], self.link_after(k));
+        }
+        at
     }
-    ports::at(ports, old)
-}
 
-pub fn write_ports(ports: &[u32], limit: Limit, p: usize, out: &mut [u8]) -> usize
-    requires p_in_bounds { p < length (ports_of ports.now) }
-    requires sender_in_bounds { limit.sender < length (ports_of ports.now) }
-    requires ports_len_bound { length (ports_of ports.now) ≤ 64 }
-    requires room { length (encode_ports (ports_in limit (ports_of ports.now) p)) ≤ length out.old }
-    ensures { Written (encode_ports (ports_in limit (ports_of ports.now) p)) out.old out.new result }
-{
-    let count = ports::count(ports) - 1;
-    let mut at: usize = 0;
-    let mut q: usize = 0;
-    while q < count {
-        at = at + record::write_port(&mut out[at..], port_after(ports, limit, p, q));
-        q = q + 1;
+    // Port q of the table without the port. The lowered rate is worked out once and passed, so what it is is a clause.
+    fn port_after(&self, lowered: Option<Lowered>, q: usize) -> Port
+        requires lowered_is { lowered ≡ lowered_in self.now }
+        requires q_in_bounds { q + 1 < port_count (table_in self.now.table.now) }
+        ensures { result ≡ get_or (table_after self.now).ports q no_port }
+    {
+        let old = old_number(q, self.port);
+        match lowered {
+            Some(l) if l.sender == old => l.rate,
+            _ => self.table.port(old),
+        }
     }
-    at
+
+    fn write_ports(&self, lowered: Option<Lowered>, out: &mut [u8]) -> usize
+        requires lowered_is { lowered ≡ lowered_in self.now }
+        requires room { length (encode_ports (table_after self.now).ports) ≤ length out.old }
+        ensures { Written (encode_ports (table_after self.now).ports) out.old out.new result }
+    {
+        let mut at = 0;
+        for q in 0..self.table.port_count() - 1 {
+            at += record::write_port(&mut out[at..], self.port_after(lowered, q));
+        }
+        at
+    }
+
+    // 19: the lowered rate or a new connection leaves its range.
+    fn value_leaves(&self, lowered: Option<Lowered>) -> bool
+        requires { lowered ≡ lowered_in self.now }
+        ensures { result ≡ value_leaves (table_in self.now.table.now) self.now.port }
+    {
+        lowered.is_some_and(|l| l.leaves_range()) || via::any_leaves(self)
+    }
+
+    // 19, 7 and 16, or how many bytes the table took.
+    pub fn write(&self, out: &mut [u8]) -> Result<usize, Refusal>
+        ensures { HiddenIn (table_in self.now.table.now) self.now.port out.old out.new (outcome result) }
+    {
+        let lowered = rate::limit_of(self);
+        if self.value_leaves(lowered) {
+            return Err(Refusal::Range);
+        }
+        if limits::LINKS < self.link_count() {
+            return Err(Refusal::Links);
+        }
+        if out.len() < self.size() {
+            return Err(Refusal::ShortTable);
+        }
+        let at = self.write_ports(lowered, out);
+        Ok(at + self.write_links(&mut out[at..]))
+    }
 }

@@ -1,45 +1,29 @@
 // The rate of the lowest-numbered sender of a port that is hidden.
-ghost use Rattle.std.specs.Prelude.{◌≡◌, false, cond, ◌&&◌, ◌*◌, ◌≤◌, ◌<◌, ltb, length};
+ghost use Rattle.std.specs.Prelude.{◌≡◌, ◌*◌, ◌≤◌, ◌<◌};
 ghost use Rattle.specification.specs.Table.{most_part};
-ghost use Rattle.specification.specs.Hiding.{lowest_sender, carried_rate, slower, rate_leaves, cannot_hide};
-ghost use Rattle.table.specs.Slices.{links_of, table_of};
-ghost use Rattle.table.specs.WellFormed.{PartFits, PortFits, WellFormed};
-ghost use Rattle.hidden.specs.Sides.{picked, Numbers};
-ghost use Rattle.hidden.specs.Limits.{IsLimit, Senders};
+ghost use Rattle.specification.specs.Hiding.{carried_rate, slower, rate_leaves, sender_link};
+ghost use Rattle.table.specs.WellFormed.{PartFits, PortFits};
+ghost use Rattle.table.specs.Held.{table_in};
+ghost use Rattle.hidden.specs.OfSides.{lowered_in};
 
-use crate::sides;
+use crate::sides::Sides;
 use fraction::Fraction;
 use specification::{Link, Port, limits};
-use table::ports;
 
-// Whether the sender's rate is lowered, the number of that sender, and the rate that it then has.
+// A sender whose rate is lowered, and the rate that it then has.
 #[derive(Clone, Copy)]
-pub struct Limit {
-    pub lowers: bool,
+pub struct Lowered {
     pub sender: usize,
     pub rate: Port,
 }
 
-// Of two links that which comes from the lower port, the first where both come from one.
-fn lower_of(lowest: Link, l: Link) -> Link
-    ensures { result ≡ cond (ltb l.from lowest.from) l lowest }
-{
-    if l.from < lowest.from { l } else { lowest }
-}
-
-// Of the links that come from the lowest port the first.
-fn lowest_sender(links: &[u32], into: &[u8]) -> Link
-    requires numbers { Numbers (links_of links.now) into.now }
-    requires into_nonzero { 0 < length into.now }
-    ensures { result ≡ lowest_sender (picked (links_of links.now) into.now) }
-{
-    let mut lowest = sides::link_at(links, into, 0);
-    let mut i: usize = 1;
-    while i < into.len() {
-        lowest = lower_of(lowest, sides::link_at(links, into, i));
-        i = i + 1;
+impl Lowered {
+    // 19 of the lowered rate.
+    pub fn leaves_range(self) -> bool
+        ensures { result ≡ rate_leaves self.rate }
+    {
+        limits::PART < self.rate.num || limits::PART < self.rate.den
     }
-    lowest
 }
 
 // A rate divided by the ratio of a link, in lowest terms.
@@ -60,53 +44,40 @@ fn carried_rate(r: Port, l: Link) -> Port
 }
 
 // The first is the smaller rate; a port without a rate has no limit.
+#[tactic(auto, unfolding(specification::specs::Hiding::slower))]
 fn is_slower(r: Port, s: Port) -> bool
     requires num_bound { r.num ≤ most_part * most_part }
     requires den_bound { r.den ≤ most_part * most_part }
     requires port_fits { PortFits s }
     ensures { result ≡ slower r s }
 {
-    if s.num == 0 {
-        return true;
-    }
-    r.num * s.den < s.num * r.den
+    s.num == 0 || r.num * s.den < s.num * r.den
 }
 
-pub fn limit_of(ports: &[u32], links: &[u32], into: &[u8], p: usize) -> Limit
-    requires well_formed { WellFormed (table_of ports.now links.now) }
-    requires can_hide { cannot_hide (table_of ports.now links.now) p ≡ false }
-    requires senders { Senders (links_of links.now) p into.now }
-    ensures { IsLimit (table_of ports.now links.now) p result }
+// Of the links into the port that come from the lowest the first.
+fn lowest_sender(sides: &Sides) -> Link
+    ensures { result ≡ sender_link (table_in sides.now.table.now) sides.now.port }
 {
-    let l = lowest_sender(links, into);
-    let sender = l.from;
-    let hidden = ports::at(ports, p);
-    if hidden.num == 0 {
-        return Limit {
-            lowers: false,
-            sender,
-            rate: hidden,
-        };
-    }
-    let rate = carried_rate(hidden, l);
-    let lowers = is_slower(rate, ports::at(ports, sender));
-    Limit {
-        lowers,
-        sender,
-        rate,
-    }
-}
-
-// 19 of the lowered rate.
-pub fn limit_leaves(limit: Limit) -> bool
-    ensures { result ≡ (limit.lowers && rate_leaves limit.rate) }
-{
-    if limit.lowers {
-        let rate = limit.rate;
-        if limits::PART < rate.num {
-            return true;
+    let mut lowest = sides.link(sides.into[0]);
+    for k in &sides.into[1..] {
+        let l = sides.link(*k);
+        if l.from < lowest.from {
+            lowest = l;
         }
-        return limits::PART < rate.den;
     }
-    false
+    lowest
+}
+
+// What hiding the port lowers: nothing where it has no rate, or its sender is no faster.
+pub fn limit_of(sides: &Sides) -> Option<Lowered>
+    ensures { result ≡ lowered_in sides.now }
+{
+    let hidden = sides.table.port(sides.port);
+    if hidden.num == 0 {
+        return None;
+    }
+    let l = lowest_sender(sides);
+    let rate = carried_rate(hidden, l);
+    let sender = l.from;
+    is_slower(rate, sides.table.port(sender)).then_some(Lowered { sender, rate })
 }

@@ -1,105 +1,66 @@
-// The links on one side of a port: into it, out of it, apart from it, or in the way of hiding it.
-ghost use Rattle.std.specs.Prelude.{◌≡◌, cond, ◌≤◌, ◌<◌, length, get_or};
-ghost use Rattle.specification.specs.Table.{no_link};
-ghost use Rattle.specification.specs.Hiding.{touches, bars};
-ghost use Rattle.specification.specs.Encoding.{encode_links};
-ghost use Rattle.table.specs.Slices.{links_of};
-ghost use Rattle.hidden.specs.Sides.{on_side, picked, Numbers, Gathered};
+// The links of a table by the side of a port on which they are.
+ghost use Rattle.table.specs.Held.{table_in};
+ghost use Rattle.hidden.specs.Parted.{Parted};
 
 use specification::Link;
-use table::links;
+use table::Table;
 
+// A port that can be hidden, and the numbers of the links into it, out of it and apart from it.
 #[derive(Clone, Copy)]
-pub enum Side {
-    Into,
-    From,
-    Apart,
-    Barring,
+pub struct Sides<'a> {
+    pub table: &'a Table<'a>,
+    pub port: usize,
+    pub into: &'a [u8],
+    pub from: &'a [u8],
+    pub apart: &'a [u8],
+    pub ghost parted: { Parted (table_in table.now) port into.now from.now apart.now },
 }
 
-fn touches_port(l: Link, p: usize) -> bool
-    ensures { result ≡ touches p l }
-{
-    if l.to == p {
-        return true;
+impl<'a> Sides<'a> {
+    ghost use Rattle.std.specs.Prelude.{◌≡◌, ◌<◌, length};
+    ghost use Rattle.specification.specs.Table.{link_count, link};
+    ghost use Rattle.specification.specs.Hiding.{links_apart};
+    ghost use Rattle.specification.specs.Encoding.{encode_links, encode_table};
+    ghost use Rattle.table.specs.Slices.{SameLink};
+    ghost use Rattle.hidden.specs.OfSides.{made_in, table_after};
+
+    // The link with that number.
+    pub fn link(&self, number: u8) -> Link
+        requires { number < link_count (table_in self.now.table.now) }
+        ensures { SameLink result (link (table_in self.now.table.now) number) }
+    {
+        self.table.link(usize::from(number))
     }
-    l.from == p
-}
 
-// A buffer at the port, or a link from it to itself.
-fn bars_port(l: Link, p: usize) -> bool
-    ensures { result ≡ bars p l }
-{
-    if touches_port(l, p) {
-        if l.kind == 3 {
-            return true;
+    // How many connections are new.
+    pub fn made_count(&self) -> usize
+        ensures { result ≡ length (made_in self.now) }
+    {
+        self.into.len() * self.from.len()
+    }
+
+    // How many links the table has without the port.
+    pub fn link_count(&self) -> usize
+        ensures { result ≡ length (table_after self.now).links }
+    {
+        self.apart.len() + self.made_count()
+    }
+
+    // No `sum`: tried, and its goal stays open, since the closure may be called at numbers of links alone.
+    fn apart_size(&self) -> usize
+        ensures { result ≡ length (encode_links (links_apart (table_in self.now.table.now) self.now.port)) }
+    {
+        let mut size = 0;
+        for k in self.apart {
+            size += encoding::link_size(self.table.links, usize::from(*k));
         }
-        return l.from == l.to;
+        size
     }
-    false
-}
 
-fn is_on(side: Side, l: Link, p: usize) -> bool
-    ensures { result ≡ on_side side p l }
-{
-    match side {
-        Side::Into => l.to == p,
-        Side::From => l.from == p,
-        Side::Apart => !touches_port(l, p),
-        Side::Barring => bars_port(l, p),
+    // How many bytes the table has without the port.
+    pub fn size(&self) -> usize
+        ensures { result ≡ length (encode_table (table_after self.now)) }
+    {
+        8 * (self.table.port_count() - 1) + self.apart_size() + 24 * self.made_count()
     }
-}
-
-fn one_if(test: bool) -> usize
-    ensures { result ≡ cond test 1 0 }
-{
-    if test { 1 } else { 0 }
-}
-
-// The numbers of the links on one side go to the front, in their order. Returns how many there are. Each number is stored, and the next one
-// over it where it is not of that side.
-pub fn gather(links: &[u32], side: Side, p: usize, numbers: &mut [u8]) -> usize
-    requires links_len_bound { length (links_of links.now) ≤ 256 }
-    requires in_bounds { 256 ≤ length numbers.old }
-    ensures { Gathered (on_side side p) (links_of links.now) numbers.new result }
-{
-    let count = links::count(links);
-    let mut n: usize = 0;
-    let mut k: usize = 0;
-    while k < count {
-        numbers[n] = k as u8;
-        n = n + one_if(is_on(side, links::at(links, k), p));
-        k = k + 1;
-    }
-    n
-}
-
-fn wide(x: u8) -> usize
-    ensures { result ≡ x }
-{
-    x as usize
-}
-
-// The link whose number stands at place i.
-pub fn link_at(links: &[u32], numbers: &[u8], i: usize) -> Link
-    requires numbers { Numbers (links_of links.now) numbers.now }
-    requires i_in_bounds { i < length numbers.now }
-    ensures { result ≡ get_or (picked (links_of links.now) numbers.now) i no_link }
-{
-    links::at(links, wide(numbers[i]))
-}
-
-// The bytes of these links.
-pub fn size_of(links: &[u32], numbers: &[u8]) -> usize
-    requires numbers { Numbers (links_of links.now) numbers.now }
-    requires numbers_len_bound { length numbers.now ≤ 256 }
-    ensures { result ≡ length (encode_links (picked (links_of links.now) numbers.now)) }
-{
-    let mut size: usize = 0;
-    let mut i: usize = 0;
-    while i < numbers.len() {
-        size = size + encoding::link_size(links, wide(numbers[i]));
-        i = i + 1;
-    }
-    size
 }

@@ -1,16 +1,13 @@
 // The connections that stand for one into a hidden port and one out of it, and number 19.
-ghost use Rattle.std.specs.Prelude.{◌≡◌, not, ◌+◌, ◌-◌, ◌*◌, ◌≤◌, ◌<◌, length, get_or};
-ghost use mathlib.Core.List.{flat_map};
+ghost use Rattle.std.specs.Prelude.{◌≡◌, not, ◌+◌, ◌*◌, ◌≤◌, ◌<◌, length, get_or};
 ghost use Rattle.numbers.specs.Lists.{keep};
 ghost use Rattle.specification.specs.Table.{most_events, most_over, no_link};
-ghost use Rattle.specification.specs.Hiding.{none, via, via_each, link_leaves};
-ghost use Rattle.table.specs.Slices.{links_of};
+ghost use Rattle.specification.specs.Hiding.{none, via, link_leaves};
 ghost use Rattle.table.specs.WellFormed.{LinkFits};
-ghost use Rattle.encoding.specs.Bounded.{LinksFit};
-ghost use Rattle.hidden.specs.Sides.{picked, Numbers};
+ghost use Rattle.hidden.specs.OfSides.{made_in};
 ghost use Rattle.hidden.specs.ViaParts.{IsNet, IsDelta, made_of};
 
-use crate::sides;
+use crate::sides::Sides;
 use fraction::Fraction;
 use specification::{Link, Ticks, limits};
 
@@ -33,16 +30,6 @@ pub struct Delta {
     pub over: u64,
 }
 
-// What is left of the first; nothing where the second is more.
-fn difference(a: u64, b: u64) -> u64
-    ensures { result ≡ a - b }
-{
-    if a < b {
-        return 0;
-    }
-    a - b
-}
-
 // An amount of the first δ plus one of the second divided by the first link's ratio, over the denominator of both.
 fn sum_via(x: Link, y: Link, first: u64, second: u64) -> u64
     requires x_fits { LinkFits 64 x }
@@ -51,7 +38,7 @@ fn sum_via(x: Link, y: Link, first: u64, second: u64) -> u64
     requires second_bound { second ≤ most_events * most_over }
     ensures { result ≡ first * (y.over * x.num) + second * (x.den * x.over) }
 {
-    first * (y.over as u64 * x.num) + second * (x.den * x.over as u64)
+    first * (u64::from(y.over) * x.num) + second * (x.den * u64::from(x.over))
 }
 
 // The first amount less the second, over a denominator, in lowest terms.
@@ -59,8 +46,8 @@ fn net(forward: u64, back: u64, over: u64) -> Delta
     requires { 0 < over }
     ensures { IsNet forward back over result }
 {
-    let gained = difference(forward, back);
-    let lost = difference(back, forward);
+    let gained = forward.saturating_sub(back);
+    let lost = back.saturating_sub(forward);
     Delta {
         forward: Fraction::reduced(gained, over).num,
         back: Fraction::reduced(lost, over).num,
@@ -73,23 +60,20 @@ fn delta_via(x: Link, y: Link) -> Delta
     requires y_fits { LinkFits 64 y }
     ensures { IsDelta x y result }
 {
-    let first = x.events;
-    let second = y.events;
-    let forward = sum_via(x, y, first.0, second.0);
-    let back = sum_via(x, y, first.1, second.1);
-    net(forward, back, x.over as u64 * y.over as u64 * x.num)
+    let forward = sum_via(x, y, x.events.0, y.events.0);
+    let back = sum_via(x, y, x.events.1, y.events.1);
+    net(forward, back, u64::from(x.over) * u64::from(y.over) * x.num)
 }
 
+#[tactic(auto, unfolding(specification::specs::Hiding::via))]
 fn ticks_via(x: Link, y: Link) -> Ticks
     requires x_fits { LinkFits 64 x }
     requires y_fits { LinkFits 64 y }
     ensures { result ≡ (via x y).ticks }
 {
-    let first = x.ticks;
-    let second = y.ticks;
-    let forward = first.0 + second.0;
-    let back = first.1 + second.1;
-    Ticks(difference(forward, back), difference(back, forward))
+    let forward = x.ticks.0 + y.ticks.0;
+    let back = x.ticks.1 + y.ticks.1;
+    Ticks(forward.saturating_sub(back), back.saturating_sub(forward))
 }
 
 fn made_via(x: Link, y: Link) -> Made
@@ -108,62 +92,42 @@ fn made_via(x: Link, y: Link) -> Made
     }
 }
 
-// New connection k: by the first connection, then the second.
-pub fn made_at(links: &[u32], into: &[u8], from: &[u8], k: usize) -> Made
-    requires links_fit { LinksFit (links_of links.now) }
-    requires into_numbers { Numbers (links_of links.now) into.now }
-    requires from_numbers { Numbers (links_of links.now) from.now }
-    requires k_in_bounds { k < length into.now * length from.now }
-    ensures { made_of result ≡ get_or (flat_map (via_each (picked (links_of links.now) from.now)) (picked (links_of links.now) into.now)) k no_link }
-{
-    let x = sides::link_at(links, into, k / from.len());
-    let y = sides::link_at(links, from, k % from.len());
-    made_via(x, y)
-}
-
 // A value leaves its range.
+#[tactic(auto, unfolding(specification::specs::Hiding::link_leaves))]
 fn leaves_range(m: Made) -> bool
     ensures { result ≡ link_leaves (made_of m) }
 {
-    let ticks = m.ticks;
     let delta = m.delta;
-    if limits::PART < m.num {
-        return true;
-    }
-    if limits::PART < m.den {
-        return true;
-    }
-    if limits::TICKS < ticks.0 {
-        return true;
-    }
-    if limits::TICKS < ticks.1 {
-        return true;
-    }
-    if limits::OVER < delta.over {
-        return true;
-    }
-    if limits::EVENTS * delta.over < delta.forward {
-        return true;
-    }
-    limits::EVENTS * delta.over < delta.back
+    limits::PART < m.num
+        || limits::PART < m.den
+        || limits::TICKS < m.ticks.0
+        || limits::TICKS < m.ticks.1
+        || limits::OVER < delta.over
+        || limits::EVENTS * delta.over < delta.forward
+        || limits::EVENTS * delta.over < delta.back
 }
 
-// 19 of the new connections, of which there may be 16,384.
-pub fn any_leaves(links: &[u32], into: &[u8], from: &[u8]) -> bool
-    requires links_fit { LinksFit (links_of links.now) }
-    requires into_numbers { Numbers (links_of links.now) into.now }
-    requires from_numbers { Numbers (links_of links.now) from.now }
-    requires into_len_bound { length into.now ≤ 256 }
-    requires from_len_bound { length from.now ≤ 256 }
-    ensures { result ≡ not (none (keep link_leaves (flat_map (via_each (picked (links_of links.now) from.now)) (picked (links_of links.now) into.now)))) }
+// New connection k: by the first connection, then the second.
+pub fn made_at(sides: &Sides, k: usize) -> Made
+    requires { k < length (made_in sides.now) }
+    ensures { made_of result ≡ get_or (made_in sides.now) k no_link }
 {
-    let count = into.len() * from.len();
-    let mut k: usize = 0;
-    while k < count {
-        if leaves_range(made_at(links, into, from, k)) {
-            return true;
+    let x = sides.link(sides.into[k / sides.from.len()]);
+    let y = sides.link(sides.from[k % sides.from.len()]);
+    made_via(x, y)
+}
+
+// 19 of the new connections, of which there may be 16,384. Two loops and no `any` over pairs by their number: that divides at each, and was slower.
+pub fn any_leaves(sides: &Sides) -> bool
+    ensures { result ≡ not (none (keep link_leaves (made_in sides.now))) }
+{
+    for first in sides.into {
+        let x = sides.link(*first);
+        for second in sides.from {
+            if leaves_range(made_via(x, sides.link(*second))) {
+                return true;
+            }
         }
-        k = k + 1;
     }
     false
 }

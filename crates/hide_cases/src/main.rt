@@ -3,62 +3,39 @@
 // bytes behind the written ones changed, then the written ones.
 #![tactic(auto)]
 
-ghost use Rattle.std.specs.Prelude.{◌≡◌, length};
-
-use marked::print_number;
+use marked::{cases, print_number};
 use records::read::number_at;
 use std::io::Read;
-
-// More cases than this are not read.
-const MOST: usize = 100000;
 
 fn main(rt: HostRuntime) {
     let mut space = io::large_buffer();
     let mut room = io::large_buffer();
-    let space_slice: &mut [u8] = &mut space;
-    let room_slice: &mut [u8] = &mut room;
-    run(&rt, &mut rt.stdin(), space_slice, room_slice);
+    let mut reader = rt.stdin();
+    cases::for_each(|| next(&rt, &mut reader, &mut space, &mut room));
 }
 
-fn run<R: Read>(out: &impl Print, reader: &mut R, space: &mut [u8], room: &mut [u8])
-    requires value { 65536 ≡ length space.old }
-    requires value_2 { 65536 ≡ length room.old }
-{
-    let mut left = MOST;
-    while 0 < left {
-        if !next(out, reader, space, room) {
-            return;
-        }
-        left = left - 1;
-    }
-}
-
-// Reads one case and prints what it comes to. Says whether there was one.
-fn next<R: Read>(out: &impl Print, reader: &mut R, space: &mut [u8], room: &mut [u8]) -> bool
-    requires value { 65536 ≡ length space.old }
-    requires value_2 { 65536 ≡ length room.old }
-{
-    let head = input::fill(reader, &mut space[..16]);
-    if head.count < 16 {
-        return false;
+// Reads one case and prints what it comes to, if there is one.
+fn next<R: Read>(
+    out: &impl Print,
+    reader: &mut R,
+    space: &mut [u8; 65536],
+    room: &mut [u8; 65536],
+) -> Option<()> {
+    if input::fill(reader, &mut space[..16]).count < 16 {
+        return None;
     }
     let port = number_at(space, 0, 8) as usize;
     let size = number_at(space, 8, 4) as usize;
     let end = number_at(space, 12, 4) as usize;
-    if 65536 < size {
-        return false;
+    let room = room.get_mut(..size)?;
+    let table = space.get_mut(..end)?;
+    if input::fill(reader, table).count < end {
+        return None;
     }
-    if 65536 < end {
-        return false;
-    }
-    let read = input::fill(reader, &mut space[..end]);
-    if read.count < end {
-        return false;
-    }
-    print_case(out, port, &space[..end], &mut room[..size])
+    print_case(out, port, table, room).ok()
 }
 
-fn print_case(out: &impl Print, port: usize, s: &[u8], room: &mut [u8]) -> bool {
+fn print_case(out: &impl Print, port: usize, s: &[u8], room: &mut [u8]) -> std::io::Result<()> {
     marked::mark(room);
     let r = hiding::hide(s, port, room);
     print_number(out, r.number, b" ");

@@ -1,3 +1,4 @@
 -- What belongs to no one function.
 mod Reported
+mod Digits
 mod Examples

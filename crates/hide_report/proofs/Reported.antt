@@ -1,12 +1,11 @@
 -- From what was hidden and printed to what the program writes.
 use Prim.Native.Nat.{ℕ, ◌≤◌, ◌<◌, min}
-use mathlib.Core.Path.{◌≡◌, refl, sym, ap, ◌∙◌}
-use mathlib.Core.Bool.{Bool, true, false, true≢false}
+use mathlib.Core.Path.{◌≡◌, sym, ap, ◌∙◌}
+use mathlib.Core.Bool.{true, false, true≢false}
 use mathlib.Core.Logic.{⊎_elim}
 use mathlib.Core.List.{List}
 use native.Mathlib.Omega.{arith}
-use lib.ListN.{length, take}
-use lib.Seq.{length-take-le}
+use lib.ListN.{length}
 use Rattle.specification.specs.Bytes.{Written}
 use Rattle.specification.specs.Table.{most_ports}
 use Rattle.specification.specs.Encoding.{most_table_bytes}
@@ -16,11 +15,9 @@ use Rattle.numbers.specs.ListLaws.{lt_or_le}
 use Rattle.records.specs.WrittenLaws.{written_front, written_within}
 use Rattle.hiding_laws.specs.HideDemands.{hide_beyond, hide_fits}
 use Rattle.input.specs.Input.{read_whole}
-use Rattle.input.specs.declared.Input.{Input}
-use Rattle.text.specs.Lines.{not_whole_line}
-use Rattle.files.specs.Files.{File, ReadInto, line_of}
+use Rattle.files.specs.Files.{File, line_of}
 use Rattle.hide_report.specs.PortArgument.{is_number, port_of}
-use Rattle.hide_report.specs.HideReport.{no_number_line, OnlyLine, HidesTo, TableReported, HideReported}
+use Rattle.hide_report.specs.HideReport.{HidesTo, TableReported, HideReported}
 
 pub table_reported : {s : List ℕ} {p : ℕ} {out out' text text' : List ℕ} {h : Outcome} {line : ℕ} → most_table_bytes ≤ length out → HideReturned s p out out' h
     → Written (line_of h.number h.place true false) text text' line
@@ -47,40 +44,7 @@ hides_beyond {s} {n} {m} e h =
     (lt_or_le n most_ports) in
     record { answer = h.answer; right = h.right; table_is = rw same at h.table_is; line_is = rw same at h.line_is }
 
--- whether the input was read whole
-pub whole_is : {space : List ℕ} {read : Input} {b : Bool} (c : Bool) → ReadInto space read → b ≡ read_whole read.failed read.count → b ≡ c
-    → read_whole read.failed (length (take read.count space)) ≡ c
-whole_is {space} {read} c r e f = rw (length-take-le read.count space r.within) (sym e ∙ f)
-
--- no table, and a line at the front of the text
-only_line : {due text text' : List ℕ} {line : ℕ} (out : List ℕ) → Written due text text' line → OnlyLine due (take 0 out) (take line text')
-only_line out w = record { table_is = refl; line_is = written_front w }
-
 module _ {argument : List ℕ} {f : File} {out text : List ℕ} {line : ℕ} where
-  pub reported_no_number : {text₀ : List ℕ} → is_number argument ≡ false → Written no_number_line text₀ text line
-      → HideReported argument f out text (record { written = 0; line = line })
-  reported_no_number e w = record {
-    writes = record {
-      no_number = λ _. only_line out w;
-      not_whole = λ z _. absurd (true≢false (sym z ∙ e));
-      hides = λ z _. absurd (true≢false (sym z ∙ e));
-    };
-    table_within = omega arith;
-    line_within = written_within w;
-  }
-
-  pub reported_not_whole : {text₀ : List ℕ} → is_number argument ≡ true → read_whole f.failed (length f.bytes) ≡ false → Written (not_whole_line f.failed) text₀ text line
-      → HideReported argument f out text (record { written = 0; line = line })
-  reported_not_whole e whole w = record {
-    writes = record {
-      no_number = λ z. absurd (true≢false (sym e ∙ z));
-      not_whole = λ _ _. only_line out w;
-      hides = λ _ z. absurd (true≢false (sym z ∙ whole));
-    };
-    table_within = omega arith;
-    line_within = written_within w;
-  }
-
   pub reported_table : {m written : ℕ} → is_number argument ≡ true → read_whole f.failed (length f.bytes) ≡ true → m ≡ min (port_of argument) most_ports
       → TableReported f.bytes m out text (record { written = written; line = line })
       → HideReported argument f out text (record { written = written; line = line })

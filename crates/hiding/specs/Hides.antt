@@ -1,5 +1,5 @@
 -- What hiding a port of a table comes to, by the number of a right answer to the table.
-use Rattle.std.specs.Prelude.{ℕ, ◌*◌, ◌≤◌, ◌≡◌, refl, ◌≢◌, List, length, take}
+use Rattle.std.specs.Prelude.{ℕ, ◌*◌, ◌≤◌, ◌≡◌, refl, ◌≢◌, List, length, Result, Ok, Err}
 use Rattle.std.proofs.Common.{sym, ◌∙◌, inl, arith}
 use borrow.Author.Tests.{eq-eqb, ne_eqb}
 use Rattle.specification.specs.Table.{Table}
@@ -7,12 +7,13 @@ use Rattle.specification.specs.Reading.{read_table, start}
 use Rattle.specification.specs.Answers.{Answer, refused, number, Right, least_room, AnswerOf, answer_place}
 use Rattle.specification.specs.Hiding.{hide_into, HideReturned}
 use Rattle.specification.specs.declared.Outcome.{Outcome}
+use Rattle.refusals.specs.declared.Fault.{Fault}
+use Rattle.refusals.specs.Faults.{outcome_of}
 use Rattle.records.specs.WrittenLaws.{written_none}
 use Rattle.table.specs.declared.reading.Counts.{Counts}
-use Rattle.table.specs.Filled.{Filled}
-use Rattle.table.specs.FilledLaws.{table_read, formed_read}
+use Rattle.table.specs.Filled.{Filled, front_of}
+use Rattle.table.specs.FilledLaws.{ports_held, links_held, table_read, formed_read}
 use Rattle.table.specs.FaultLaws.{table_no_place}
-use Rattle.table.specs.Slices.{table_of}
 use Rattle.table.specs.WellFormed.{WellFormed}
 use Rattle.hidden.specs.HiddenIn.{HiddenIn}
 
@@ -22,86 +23,97 @@ pub record OwnNumber (t : Table) (n : ℕ) : Type 0 where
   pub right : Right t answer
   pub is : n ≡ number answer
 
--- the slices hold the table of s
-pub record Holds (s ports links : List ℕ) (c : Counts) : Type 0 where
-  pub port_room : 2 * c.port_count ≤ length ports
-  pub link_room : 10 * c.link_count ≤ length links
-  pub formed : WellFormed (table_of (take (2 * c.port_count) ports) (take (10 * c.link_count) links))
-  pub is : table_of (take (2 * c.port_count) ports) (take (10 * c.link_count) links) ≡ (read_table s).table
-
--- the number is that of a right answer to s; its place is that of the answer, or the slices hold a table whose answer is 0
-pub record OwnRead (s ports links : List ℕ) (c : Counts) : Type 0 where
+-- a right answer to s has number 0, and the slices hold its table
+pub record OwnHeld (s ports links : List ℕ) (c : Counts) : Type 0 where
   pub answer : Answer
   pub right : AnswerOf s least_room answer
-  pub number_is : c.number ≡ number answer
-  pub place_is : c.number ≢ 0 → c.place ≡ answer_place s least_room
-  pub holds : c.number ≡ 0 → Holds s ports links c
+  pub none : number answer ≡ 0
+  pub port_room : 2 * c.ports ≤ length ports
+  pub link_room : 10 * c.links ≤ length links
+  pub formed : WellFormed (front_of c ports links)
+  pub is : front_of c ports links ≡ (read_table s).table
 
-module _ (s : List ℕ) {ports links ports' links' : List ℕ} {c : Counts} (f : Filled start (read_table s) ports links ports' links' c) where
+-- it has this number, at this place
+pub record OwnRefused (s : List ℕ) (r : Outcome) : Type 0 where
+  pub answer : Answer
+  pub right : AnswerOf s least_room answer
+  pub some : r.number ≢ 0
+  pub number_is : r.number ≡ number answer
+  pub place_is : r.place ≡ answer_place s least_room
+  pub written_is : r.written ≡ 0
+
+abbrev pub OwnRead : (s ports links : List ℕ) → Result Counts Outcome → Type 0
+OwnRead s ports links (Ok c) = OwnHeld s ports links c
+OwnRead s ports links (Err r) = OwnRefused s r
+
+module _ (s : List ℕ) {ports links ports' links' : List ℕ} where
   -- a fault of 2 to 12
-  pub own_faulty : c.number ≢ 0 → OwnRead s ports' links' c
+  pub own_faulty : {f : Fault} → Filled start (read_table s) ports links ports' links' (Err f) → OwnRefused s (outcome_of f)
   unfolding answer_place
-  own_faulty d = record {
+  own_faulty {f} r = record {
     answer = refused (read_table s).number;
     right = record {
       short = λ k. absurd (omega arith);
       faulty = λ k g. refl;
-      right = λ k g. absurd (d (f.number ∙ g));
+      right = λ k g. absurd (r.returned.some g);
     };
-    number_is = f.number;
-    place_is = λ _. f.place;
-    holds = λ e. absurd (d e);
+    some = λ z. r.returned.some (r.returned.number ∙ z);
+    number_is = sym r.returned.number;
+    place_is = sym r.returned.place;
+    written_is = refl;
   }
 
-  module _ (e : c.number ≡ 0) (same_ports : length ports' ≡ length ports) (same_links : length links' ≡ length links) where
-    no_fault : (read_table s).number ≡ 0
-    no_fault = sym f.number ∙ e
-
-    no_place : answer_place s least_room ≡ 0
-    unfolding answer_place
-    no_place = table_no_place s (inl (omega (arith, no_fault)))
+  module _ {c : Counts} (f : Filled start (read_table s) ports links ports' links' (Ok c)) {t : Table} (is : t ≡ front_of c ports' links') {n : ℕ} (o : OwnNumber t n) where
+    own_right : AnswerOf s least_room o.answer
+    own_right = record {
+      short = λ k. absurd (omega arith);
+      faulty = λ k g. absurd (g f.returned.number);
+      right = λ k g. rw (← table_read f, ← is) o.right;
+    }
 
     -- else the number of the table
-    pub own_read : {n : ℕ} → OwnNumber (table_of (take (2 * c.port_count) ports') (take (10 * c.link_count) links')) n
-        → OwnRead s ports' links' (record { number = n; place = c.place; port_count = c.port_count; link_count = c.link_count })
-    own_read o = record {
+    pub own_refused : n ≢ 0 → OwnRefused s (record { number = n; place = 0; written = 0 })
+    unfolding answer_place
+    own_refused d = record {
       answer = o.answer;
-      right = record {
-        short = λ k. absurd (omega arith);
-        faulty = λ k g. absurd (g no_fault);
-        right = λ k g. rw (← table_read f) o.right;
-      };
+      right = own_right;
+      some = d;
       number_is = o.is;
-      place_is = λ _. f.place ∙ table_no_place s (inl (omega (arith, no_fault))) ∙ sym no_place;
-      holds = λ _. record {
-        port_room = omega (arith, f.port_room);
-        link_room = omega (arith, f.link_room);
-        formed = formed_read s f e;
-        is = table_read f;
-      };
+      place_is = sym (table_no_place s (inl (omega (arith, f.returned.number))));
+      written_is = refl;
+    }
+
+    pub own_held : n ≡ 0 → length ports' ≡ length ports → length links' ≡ length links → OwnHeld s ports' links' c
+    own_held z same_ports same_links = record {
+      answer = o.answer;
+      right = own_right;
+      none = sym o.is ∙ z;
+      port_room = omega (arith, ports_held f);
+      link_room = omega (arith, links_held f);
+      formed = formed_read s f;
+      is = table_read f;
     }
 
 -- ---- the table's own refusal, or what hiding comes to
-module _ {s ports links : List ℕ} {c : Counts} (o : OwnRead s ports links c) (p : ℕ) where
-  pub returned_own : (before : List ℕ) → c.number ≢ 0 → HideReturned s p before before (record { number = c.number; place = c.place; written = 0 })
+module _ {s : List ℕ} (p : ℕ) where
+  pub returned_own : {r : Outcome} (before : List ℕ) → OwnRefused s r → HideReturned s p before before r
   unfolding hide_into
-  returned_own before d =
-      let e = ne_eqb (number o.answer) 0 (λ z. d (o.number_is ∙ z)) in
+  returned_own before o =
+      let e = ne_eqb (number o.answer) 0 (λ z. o.some (o.number_is ∙ z)) in
       record {
         answer = o.answer;
         right = o.right;
         number_is = rw e o.number_is;
-        place_is = rw e (o.place_is d);
-        table_is = rw e (written_none before);
+        place_is = rw e o.place_is;
+        table_is = rw (e, o.written_is) (written_none before);
       }
 
-  pub returned_hidden : {before after : List ℕ} {r : Outcome} (z : c.number ≡ 0)
-      → HiddenIn (table_of (take (2 * c.port_count) ports) (take (10 * c.link_count) links)) p before after r
+  pub returned_hidden : {ports links before after : List ℕ} {c : Counts} {r : Outcome} (o : OwnHeld s ports links c) {t : Table} → t ≡ front_of c ports links → HiddenIn t p before after r
       → HideReturned s p before after r
   unfolding hide_into
-  returned_hidden z h =
-      let e = eq-eqb (number o.answer) 0 (sym o.number_is ∙ z) in
-      let t = (o.holds z).is in
+  returned_hidden o is h =
+      let e = eq-eqb (number o.answer) 0 o.none in
+      let t = is ∙ o.is in
       record {
         answer = o.answer;
         right = o.right;

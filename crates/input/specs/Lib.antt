@@ -1,2 +1,3 @@
 -- What a read of an input comes to.
 pub mod Input
+pub mod ReadInto

@@ -1,21 +1,58 @@
 // Reading an input into a buffer, and whether it was read whole.
 #![tactic(auto)]
 
-ghost use Rattle.std.specs.Prelude.{◌≡◌, true, false, ◌+◌, ◌-◌, ◌^◌, ◌≤◌, ◌<◌, length, take, drop};
+ghost use Rattle.std.specs.Prelude.{◌≡◌, ◌+◌, ◌-◌, ◌^◌, ◌≤◌, ◌<◌, length, take, drop};
 ghost use Rattle.std.specs.Io.KnownBytes.{Consumes, IsAtEnd};
-ghost use Rattle.input.specs.Input.{read_whole, read_result, AfterRead, Onward};
+ghost use Rattle.input.specs.Input.{read_result, whole_of, AfterRead, Onward};
 
 use std::fs::File;
 use std::io::Read;
 use std::rt::{Env, Files};
 use std::{io, str};
 
-// How many bytes stand at the front of the buffer, whether more may come, and whether a read failed.
+mod filled;
+
+pub use filled::Filled;
+
+// How a reading ended: more may come, the input's end was reached, or a read failed.
+#[derive(Clone, Copy, PartialEq, Eq)]
+pub enum End {
+    More,
+    Reached,
+    Failed,
+}
+
+// How many bytes stand at the front of the buffer, and how the reading ended.
 #[derive(Clone, Copy)]
 pub struct Input {
     pub count: usize,
-    pub more: bool,
-    pub failed: bool,
+    pub end: End,
+}
+
+// Why an input was not read whole: a read failed, or it is longer than is taken.
+#[derive(Clone, Copy, PartialEq, Eq)]
+pub enum Stop {
+    Unread,
+    Long,
+}
+
+// The most bytes of an input that are taken.
+const MOST: usize = 65536;
+
+impl Input {
+    // How many bytes an input that was read whole has.
+    #[tactic(auto, unfolding(crate::specs::Input::whole_of, crate::specs::Input::read_whole))]
+    pub fn whole(self) -> Result<usize, Stop>
+        ensures { result ≡ whole_of self }
+    {
+        if self.end == End::Failed {
+            return Err(Stop::Unread);
+        }
+        if self.count > MOST {
+            return Err(Stop::Long);
+        }
+        Ok(self.count)
+    }
 }
 
 // What a read came to that was to fill the buffer from `count` on: no bytes are the end of the input.
@@ -23,20 +60,14 @@ fn after_read(count: usize, got: io::Result<usize>, rest: &[u8]) -> Input
     requires { count + length rest.now < 2 ^ 64 }
     ensures { AfterRead count (read_result got) (length rest.now) result }
 {
-    match got {
-        Err(_) => Input {
-            count,
-            more: false,
-            failed: true,
-        },
-        Ok(n) => {
-            let n = n.min(rest.len());
-            Input {
-                count: count + n,
-                more: n > 0,
-                failed: false,
-            }
-        }
+    let Ok(n) = got else {
+        return failed(count);
+    };
+    let n = n.min(rest.len());
+    let end = if n > 0 { End::More } else { End::Reached };
+    Input {
+        count: count + n,
+        end,
     }
 }
 
@@ -48,7 +79,7 @@ fn read_once<R: Read>(reader: &mut R, buf: &mut [u8], count: usize) -> Input
     ensures front { take count buf.new ≡ take count buf.old }
     ensures bytes { Consumes (R.remaining reader.old) (R.remaining reader.new)
         (take (result.count - count) (drop count buf.new)) }
-    ensures end { count < length buf.old → result.failed ≡ false → result.more ≡ false
+    ensures end { count < length buf.old → result.end ≡ End.Reached
         → IsAtEnd (R.remaining reader.new) }
 {
     let got = reader.read(&mut buf[count..]);
@@ -62,33 +93,27 @@ pub fn fill<R: Read>(reader: &mut R, buf: &mut [u8]) -> Input
     ensures buf_len_unchanged { length buf.new ≡ length buf.old }
     ensures bytes { Consumes (R.remaining reader.old) (R.remaining reader.new)
         (take result.count buf.new) }
-    ensures end { result.failed ≡ false → result.more ≡ false → IsAtEnd (R.remaining reader.new) }
-    ensures full { result.more ≡ true → result.count ≡ length buf.new }
+    ensures end { result.end ≡ End.Reached → IsAtEnd (R.remaining reader.new) }
+    ensures full { result.end ≡ End.More → result.count ≡ length buf.new }
 {
     let mut input = Input {
         count: 0,
-        more: true,
-        failed: false,
+        end: End::More,
     };
-    while input.more {
-        if input.count == buf.len() {
-            return input;
-        }
+    while input.end == End::More && input.count < buf.len() {
         input = read_once(reader, buf, input.count);
     }
     input
 }
 
-// No file, which counts as a failed read.
-fn unread() -> Input
-    ensures count_value { result.count ≡ 0 }
-    ensures failed_value { result.failed ≡ true }
+// A reading that failed behind so many bytes.
+fn failed(count: usize) -> Input
+    ensures count_value { result.count ≡ count }
+    ensures end_value { result.end ≡ End.Failed }
 {
-    let failed = true;
     Input {
-        count: 0,
-        more: false,
-        failed,
+        count,
+        end: End::Failed,
     }
 }
 
@@ -98,12 +123,12 @@ pub fn fill_named<R: Files>(files: &R, name: &[u8], buf: &mut [u8]) -> Input
     ensures buf_len_unchanged { length buf.new ≡ length buf.old }
 {
     let Ok(name) = str::from_utf8(name) else {
-        return unread();
+        return failed(0);
     };
-    match File::open(files, name) {
-        Ok(mut file) => fill(&mut file, buf),
-        Err(_) => unread(),
-    }
+    let Ok(mut file) = File::open(files, name) else {
+        return failed(0);
+    };
+    fill(&mut file, buf)
 }
 
 // Reads the file that argument k names. A name that is missing or too long counts as a failed read.
@@ -112,10 +137,10 @@ pub fn fill_argument<R: Env + Files>(rt: &R, k: usize, buf: &mut [u8]) -> Input
     ensures buf_len_unchanged { length buf.new ≡ length buf.old }
 {
     let mut name = [0u8; 4096];
-    match rt.arg(k, &mut name) {
-        Ok(n) => fill_named(rt, &name[..n], buf),
-        Err(_) => unread(),
-    }
+    let Ok(n) = rt.arg(k, &mut name) else {
+        return failed(0);
+    };
+    fill_named(rt, &name[..n], buf)
 }
 
 // Room for an input, with a byte more than is taken, so that a longer input shows.
@@ -123,15 +148,4 @@ pub fn room() -> [u8; 65537]
     ensures { 65537 ≡ length result }
 {
     [0; 65537]
-}
-
-// Whether the input was read whole: no read failed, and it is not longer than is taken.
-#[tactic(auto, unfolding(crate::specs::Input::read_whole))]
-pub fn whole(read: Input) -> bool
-    ensures { result ≡ read_whole read.failed read.count }
-{
-    if read.failed {
-        return false;
-    }
-    read.count <= 65536
 }

@@ -1,6 +1,8 @@
 // The join program: joins the tables and the added records of three named files, FIRST SECOND ADDED, and writes the joined table.
 #![tactic(auto)]
 
+use input::Filled;
+
 fn main(rt: HostRuntime) {
     let mut first = input::room();
     let mut second = input::room();
@@ -11,19 +13,23 @@ fn main(rt: HostRuntime) {
     let second_read = input::fill_argument(&rt, 2, &mut second);
     let added_read = input::fill_argument(&rt, 3, &mut added);
     let r = join_report::report(
-        &first,
-        first_read,
-        &second,
-        second_read,
-        &added,
-        added_read,
+        &Filled {
+            space: &first,
+            read: first_read,
+        },
+        &Filled {
+            space: &second,
+            read: second_read,
+        },
+        &Filled {
+            space: &added,
+            read: added_read,
+        },
         &mut out,
         &mut text,
     );
-    let line = r.line;
-    let _ = rt.stderr().write_all(&text[..line]);
-    let written = r.written;
-    if rt.write_all(&out[..written]).is_err() {
+    let _ = rt.stderr().write_all(&text[..r.line]);
+    if rt.write_all(&out[..r.written]).is_err() {
         let _ = rt.stderr().write_all(b"the table was not written\n");
     }
 }

@@ -3,44 +3,39 @@
 // each call. Printed are what is returned and how many bytes behind the written ones changed, then the written ones.
 #![tactic(auto)]
 
-ghost use Rattle.std.specs.Prelude.{◌≤◌, ◌≡◌, length};
+ghost use Rattle.std.specs.Prelude.{◌≤◌, length};
 
-use marked::print_number;
+use marked::{cases, print_number};
 use records::read::number_at;
 use specification::JoinOutcome;
 use std::io::Read;
 
-// More cases than this are not read.
-const MOST: usize = 100000;
-
-// The number of the call of a join; every other is that of a preview.
-const JOIN: u64 = 0;
-
 fn main(rt: HostRuntime) {
     let mut space = io::large_buffer();
     let mut room = io::large_buffer();
-    let space_slice: &mut [u8] = &mut space;
-    let room_slice: &mut [u8] = &mut room;
-    run(&rt, &mut rt.stdin(), space_slice, room_slice);
+    let mut reader = rt.stdin();
+    cases::for_each(|| next(&rt, &mut reader, &mut space, &mut room));
 }
 
-fn run<R: Read>(out: &impl Print, reader: &mut R, space: &mut [u8], room: &mut [u8])
-    requires value { 65536 ≡ length space.old }
-    requires value_2 { 65536 ≡ length room.old }
-{
-    let mut left = MOST;
-    while 0 < left {
-        if !next(out, reader, space, room) {
-            return;
+#[derive(Clone, Copy)]
+enum Call {
+    Join,
+    Preview,
+}
+
+impl From<u64> for Call {
+    fn from(number: u64) -> Call {
+        match number {
+            0 => Call::Join,
+            _ => Call::Preview,
         }
-        left = left - 1;
     }
 }
 
 // The numbers at the front of a case; the second input and the added records begin at these places behind them.
 #[derive(Clone, Copy)]
 struct Case {
-    call: u64,
+    call: Call,
     room: usize,
     second: usize,
     added: usize,
@@ -55,7 +50,7 @@ fn numbers_of(head: &[u8]) -> Case
     let second = number_at(head, 8, 4) as usize;
     let added = second + number_at(head, 12, 4) as usize;
     Case {
-        call: number_at(head, 0, 4),
+        call: Call::from(number_at(head, 0, 4)),
         room: number_at(head, 4, 4) as usize,
         second,
         added,
@@ -63,43 +58,35 @@ fn numbers_of(head: &[u8]) -> Case
     }
 }
 
-// Reads one case and prints what it comes to. Says whether there was one.
-fn next<R: Read>(out: &impl Print, reader: &mut R, space: &mut [u8], room: &mut [u8]) -> bool
-    requires value { 65536 ≡ length space.old }
-    requires value_2 { 65536 ≡ length room.old }
-{
-    let head = input::fill(reader, &mut space[..20]);
-    if head.count < 20 {
-        return false;
+// Reads one case and prints what it comes to, if there is one.
+fn next<R: Read>(
+    out: &impl Print,
+    reader: &mut R,
+    space: &mut [u8; 65536],
+    room: &mut [u8; 65536],
+) -> Option<()> {
+    if input::fill(reader, &mut space[..20]).count < 20 {
+        return None;
     }
     let case = numbers_of(space);
-    let size = case.room;
-    let end = case.end;
-    if 65536 < size {
-        return false;
+    let room = room.get_mut(..case.room)?;
+    let inputs = space.get_mut(..case.end)?;
+    if input::fill(reader, inputs).count < case.end {
+        return None;
     }
-    if 65536 < end {
-        return false;
-    }
-    let read = input::fill(reader, &mut space[..end]);
-    if read.count < end {
-        return false;
-    }
-    print_case(out, case, &space[..end], &mut room[..size])
+    print_case(out, case, inputs, room).ok()
 }
 
-fn print_case(out: &impl Print, case: Case, s: &[u8], room: &mut [u8]) -> bool
+fn print_case(out: &impl Print, case: Case, s: &[u8], room: &mut [u8]) -> std::io::Result<()>
     requires second_le_added { case.second ≤ case.added }
     requires added_in_bounds { case.added ≤ length s.now }
 {
     marked::mark(room);
-    let second = case.second;
-    let added = case.added;
     let r = outcome(
         case.call,
-        &s[..second],
-        &s[second..added],
-        &s[added..],
+        &s[..case.second],
+        &s[case.second..case.added],
+        &s[case.added..],
         room,
     );
     print_number(out, r.number, b" ");
@@ -108,11 +95,11 @@ fn print_case(out: &impl Print, case: Case, s: &[u8], room: &mut [u8]) -> bool
     marked::print_written(out, room, r.written)
 }
 
-fn outcome(call: u64, first: &[u8], second: &[u8], added: &[u8], room: &mut [u8]) -> JoinOutcome
+fn outcome(call: Call, first: &[u8], second: &[u8], added: &[u8], room: &mut [u8]) -> JoinOutcome
     ensures { result.written ≤ length room.new }
 {
-    if call == JOIN {
-        return joins::join(first, second, added, room);
+    match call {
+        Call::Join => joins::join(first, second, added, room),
+        Call::Preview => previews::preview(first, second, added, room),
     }
-    previews::preview(first, second, added, room)
 }

@@ -1,7 +1,6 @@
 -- From what was read and written to the promise of the join.
 use Prim.Native.Nat.{ℕ, ◌*◌, ◌≤◌, ◌<◌}
-use mathlib.Core.Path.{◌≡◌, refl, sym, ap, ◌∙◌}
-use mathlib.Core.Logic.{◌≢◌}
+use mathlib.Core.Path.{◌≡◌, refl, ap}
 use mathlib.Core.List.{List}
 use native.Mathlib.Omega.{arith}
 use lib.ListN.{length, take}
@@ -14,11 +13,13 @@ use Rattle.table.specs.ReadingLaws.{fits_more}
 use Rattle.table.specs.Slices.{ports_of, links_of, table_of}
 use Rattle.encoding.specs.Bounded.{LinksFit}
 use Rattle.joins.specs.JoinedLaws.{joined_writable}
-use Rattle.joins.specs.JoinCases.{fitted_none, join_refused, join_done}
-use Rattle.joins.specs.InputsRead.{refusal_of, InputsRead}
+use Rattle.joins.specs.JoinCases.{fitted_none, join_refused}
+use Rattle.joins.specs.Refusals.{refusal_of}
+use Rattle.joins.specs.InputsRead.{JoinFault, JoinedRead}
 use Rattle.joins.specs.InputsLaws.{read_refused, read_joined}
 use Rattle.specification.specs.declared.JoinOutcome.{JoinOutcome}
-use Rattle.joins.specs.declared.inputs.Inputs.{Inputs}
+use Rattle.table.specs.declared.reading.Counts.{Counts}
+use Rattle.joins.specs.declared.inputs.InputFault.{InputFault}
 
 -- ---- 16, or the table
 module _ (xs : List ℕ) {ys : List ℕ} where
@@ -32,21 +33,17 @@ module _ (xs : List ℕ) {ys : List ℕ} where
   long_enough h w = rw (le-ltb (length ys) (length xs) h) (record { number_is = refl; place_is = refl; input_is = refl; table_is = w })
 
 -- ---- the join
-module _ {first second added ports links : List ℕ} {i : Inputs} (read : InputsRead first second added ports links i) where
-  pub refused : {out : List ℕ} {r : JoinOutcome} → i.number ≢ 0 → r ≡ refusal_of i → JoinReturned (join_into first second added (length out)) out out r
-  refused {out} f e =
-      let none = join_refused first second added (λ z. f (read.number ∙ z)) in
-      rw (fitted_none (join_of first second added) (length out) none, e) (read_refused read out f)
+module _ {first second added : List ℕ} where
+  pub refused : {f : InputFault} {out : List ℕ} {r : JoinOutcome} → JoinFault first second added f → r ≡ refusal_of f
+      → JoinReturned (join_into first second added (length out)) out out r
+  refused {out = out} read e =
+      let none = join_refused first second added read.some in
+      rw (fitted_none (join_of first second added) (length out) none, e) (read_refused read out)
 
-  module _ (z : i.number ≡ 0) where
-    abbrev ps : List ℕ
-    ps = take (2 * i.port_count) ports
-
-    abbrev ls : List ℕ
-    ls = take (10 * i.link_count) links
-
+  module _ {ports links ps ls : List ℕ} {c : Counts} (read : JoinedRead first second added ports links c) (ps_are : ps ≡ take (2 * c.ports) ports)
+      (ls_are : ls ≡ take (10 * c.links) links) where
     table_is : table_of ps ls ≡ joined_table first second added
-    table_is = read_joined read z
+    table_is = read_joined read ps_are ls_are
 
     pub few_ports : length (ports_of ps) ≤ 64
     few_ports = omega (arith, ap port_count table_is, (joined_writable first second added).few_ports)
@@ -62,4 +59,4 @@ module _ {first second added ports links : List ℕ} {i : Inputs} (read : Inputs
 
     pub written_joined : {out out' : List ℕ} {r : JoinOutcome} → JoinReturned (fitted (joined (encode_table (table_of ps ls))) (length out)) out out' r
         → JoinReturned (join_into first second added (length out)) out out' r
-    written_joined w = rw (join_done first second added (sym read.number ∙ z)) (rw table_is at w)
+    written_joined w = rw read.is (rw table_is at w)

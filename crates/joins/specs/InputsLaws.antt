@@ -1,24 +1,30 @@
 -- What a caller of the reader of the inputs knows.
-use Rattle.std.specs.Prelude.{ℕ, ◌*◌, ◌≡◌, ◌≢◌, List, take}
-use Rattle.std.proofs.Common.{◌∙◌}
-use Rattle.specification.specs.Joining.{joined_table, join_of, JoinReturned}
+use Rattle.std.specs.Prelude.{ℕ, ◌*◌, ◌≡◌, List, take}
+use Rattle.std.proofs.Common.{sym, ap}
+use Rattle.specification.specs.Joining.{joined_table, Join, join_of, JoinReturned}
 use Rattle.records.specs.WrittenLaws.{written_none}
 use Rattle.table.specs.Slices.{table_of}
 use Rattle.table.specs.FilledLaws.{front_table}
 use Rattle.joins.specs.JoinCases.{join_refused}
-use Rattle.joins.specs.InputsRead.{refusal_of, InputsRead}
-use Rattle.joins.specs.declared.inputs.Inputs.{Inputs}
+use Rattle.joins.specs.Refusals.{refusal_of}
+use Rattle.joins.specs.InputsRead.{JoinFault, JoinedRead}
+use Rattle.table.specs.declared.reading.Counts.{Counts}
+use Rattle.joins.specs.declared.inputs.InputFault.{InputFault}
 
-module _ {first second added ports links : List ℕ} {i : Inputs} (read : InputsRead first second added ports links i) where
+module _ {first second added : List ℕ} where
   -- a fault is the join's refusal, of whatever buffer
-  pub read_refused : (out : List ℕ) → i.number ≢ 0 → JoinReturned (join_of first second added) out out (refusal_of i)
-  read_refused out f = record {
-    number_is = read.number;
-    place_is = read.place;
-    input_is = read.input;
-    table_is = rw (join_refused first second added (λ e. f (read.number ∙ e))) (written_none out);
+  pub read_refused : {f : InputFault} → JoinFault first second added f → (out : List ℕ) → JoinReturned (join_of first second added) out out (refusal_of f)
+  read_refused read out = record {
+    number_is = ap (λ (j : Join). j.number) (sym read.is);
+    place_is = ap (λ (j : Join). j.place) (sym read.is);
+    input_is = ap (λ (j : Join). j.input) (sym read.is);
+    table_is = rw (join_refused first second added read.some) (written_none out);
   }
 
-  -- where there is none, the slices hold the joined table
-  pub read_joined : i.number ≡ 0 → table_of (take (2 * i.port_count) ports) (take (10 * i.link_count) links) ≡ joined_table first second added
-  read_joined z = front_table (read.joined z)
+  module _ {ports links : List ℕ} {c : Counts} (read : JoinedRead first second added ports links c) where
+    pub no_fault : (join_of first second added).number ≡ 0
+    no_fault = ap (λ (j : Join). j.number) read.is
+
+    -- the parts of the slices are the joined table's
+    pub read_joined : {ps ls : List ℕ} → ps ≡ take (2 * c.ports) ports → ls ≡ take (10 * c.links) links → table_of ps ls ≡ joined_table first second added
+    read_joined ps_are ls_are = rw (ps_are, ls_are) (front_table read.front)

@@ -6,5 +6,6 @@ pub mod JoinedLaws
 pub mod JoinCases
 pub mod InputFaults
 pub mod JoinDemands
+pub mod Refusals
 pub mod InputsRead
 pub mod InputsLaws

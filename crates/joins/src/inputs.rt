@@ -2,74 +2,74 @@
 ghost use Rattle.std.specs.Prelude.{◌≡◌, ◌+◌, length};
 ghost use Rattle.specification.specs.Reading.{start};
 ghost use Rattle.table.specs.Filled.{Room};
-ghost use Rattle.joins.specs.InputsRead.{refusal_of, InputRead, TablesRead, InputsRead};
+ghost use Rattle.joins.specs.Refusals.{refusal_of};
+ghost use Rattle.joins.specs.InputsRead.{InputRead, TablesRead, InputsRead};
 
+use refusals::Fault;
 use specification::{Before, JoinOutcome};
 use table::reading;
+use table::reading::Counts;
 
-// The number, place and input of the first fault, 0 where there is none, and how many ports and links the slices hold.
+// Each with the number that `JoinOutcome` has for it.
 #[derive(Clone, Copy)]
-pub struct Inputs {
-    pub number: u64,
-    pub place: usize,
-    pub input: u64,
-    pub port_count: usize,
-    pub link_count: usize,
+pub enum Input {
+    First = 1,
+    Second = 2,
+    Added = 3,
 }
 
-// What a join and a preview return where an input has a fault.
-pub fn refusal(fault: Inputs) -> JoinOutcome
-    ensures { result ≡ refusal_of fault }
-{
-    JoinOutcome {
-        number: fault.number,
-        place: fault.place,
-        input: fault.input,
-        written: 0,
+// A fault, its place within the input that has it.
+#[derive(Clone, Copy)]
+pub struct InputFault {
+    pub fault: Fault,
+    pub input: Input,
+}
+
+// What a join and a preview return of it.
+impl From<InputFault> for JoinOutcome {
+    ghost from_gives = { λ f o. o ≡ refusal_of f };
+
+    fn from(fault: InputFault) -> JoinOutcome {
+        JoinOutcome {
+            number: fault.fault.refusal.number(),
+            place: fault.fault.place,
+            input: fault.input as u64,
+            written: 0,
+        }
     }
 }
 
 // Reads one input behind what was read before it.
-fn read_input(s: &[u8], input: u64, before: Before, ports: &mut [u32], links: &mut [u32]) -> Inputs
+fn read_input(
+    s: &[u8],
+    input: Input,
+    before: Before,
+    ports: &mut [u32],
+    links: &mut [u32],
+) -> Result<Counts, InputFault>
     requires { Room (length s.now) before (length ports.old) (length links.old) }
     ensures { InputRead s.now input before ports.old links.old ports.new links.new result }
 {
-    let read = reading::read_on(s, before, ports, links);
-    let mut at: u64 = 0;
-    if read.number != 0 {
-        at = input;
-    }
-    Inputs {
-        number: read.number,
-        place: read.place,
-        input: at,
-        port_count: read.port_count,
-        link_count: read.link_count,
-    }
+    reading::read_on(s, before, ports, links).map_err(|fault| InputFault { fault, input })
 }
 
 // The two tables.
-fn read_tables(first: &[u8], second: &[u8], ports: &mut [u32], links: &mut [u32]) -> Inputs
+fn read_tables(
+    first: &[u8],
+    second: &[u8],
+    ports: &mut [u32],
+    links: &mut [u32],
+) -> Result<Counts, InputFault>
     requires { Room (length first.now + length second.now) start (length ports.old) (length links.old) }
     ensures { TablesRead first.now second.now ports.old links.old ports.new links.new result }
 {
-    let before_first = Before {
-        ports: 0,
-        links: 0,
-        named: 0,
-        port_may_come: true,
-    };
-    let a = read_input(first, 1, before_first, ports, links);
-    if a.number != 0 {
-        return a;
-    }
+    let one = read_input(first, Input::First, Before::START, ports, links)?;
     let before_second = Before {
-        ports: a.port_count,
-        links: a.link_count,
-        named: 0,
-        port_may_come: true,
+        ports: one.ports,
+        links: one.links,
+        ..Before::START
     };
-    read_input(second, 2, before_second, ports, links)
+    read_input(second, Input::Second, before_second, ports, links)
 }
 
 pub fn read_inputs(
@@ -78,19 +78,16 @@ pub fn read_inputs(
     added: &[u8],
     ports: &mut [u32],
     links: &mut [u32],
-) -> Inputs
+) -> Result<Counts, InputFault>
     requires { Room (length first.now + length second.now + length added.now) start (length ports.old) (length links.old) }
     ensures { InputsRead first.now second.now added.now ports.new links.new result }
 {
-    let both = read_tables(first, second, ports, links);
-    if both.number != 0 {
-        return both;
-    }
+    let both = read_tables(first, second, ports, links)?;
     let before_added = Before {
-        ports: both.port_count,
-        links: both.link_count,
-        named: both.port_count,
+        ports: both.ports,
+        links: both.links,
+        named: both.ports,
         port_may_come: false,
     };
-    read_input(added, 3, before_added, ports, links)
+    read_input(added, Input::Added, before_added, ports, links)
 }

@@ -7,8 +7,9 @@ ghost use Rattle.specification.specs.Joining.{joined, fitted, join_into, JoinRet
 ghost use Rattle.table.specs.Slices.{ports_of, links_of, table_of};
 ghost use Rattle.encoding.specs.Bounded.{LinksFit};
 
+use refusals::Refusal;
 use specification::JoinOutcome;
-use table::{links, ports};
+use table::links;
 
 pub mod inputs;
 
@@ -17,13 +18,13 @@ pub fn join(first: &[u8], second: &[u8], added: &[u8], out: &mut [u8]) -> JoinOu
 {
     let mut ports = [0u32; 128];
     let mut links = links::room();
-    let read = inputs::read_inputs(first, second, added, &mut ports, &mut links);
-    if read.number != 0 {
-        return inputs::refusal(read);
+    match inputs::read_inputs(first, second, added, &mut ports, &mut links) {
+        Ok(read) => {
+            let (ports, links) = read.cut(&ports, &links);
+            write_joined(ports, links, out)
+        }
+        Err(fault) => fault.into(),
     }
-    let port_end = ports::WIDTH * read.port_count;
-    let link_end = links::WIDTH * read.link_count;
-    write_joined(&ports[..port_end], &links[..link_end], out)
 }
 
 // 16, or the table.
@@ -34,7 +35,7 @@ fn write_joined(ports: &[u32], links: &[u32], out: &mut [u8]) -> JoinOutcome
 {
     if out.len() < encoding::table_size(ports, links) {
         return JoinOutcome {
-            number: 16,
+            number: Refusal::ShortTable.number(),
             place: 0,
             input: 0,
             written: 0,

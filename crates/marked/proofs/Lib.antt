@@ -1,2 +1,2 @@
--- What the loops over a room use.
+-- What belongs to no one function.
 mod Counting

@@ -2,7 +2,11 @@
 #![tactic(auto)]
 
 ghost use Rattle.std.specs.Prelude.{◌≤◌, ◌≡◌, length};
-ghost use Rattle.marked.specs.Changed.{changed_byte, changed_bytes};
+ghost use Rattle.marked.specs.Changed.{changed_bytes};
+
+use std::io;
+
+pub mod cases;
 
 // No record has this byte everywhere.
 const MARK: u8 = 165;
@@ -10,35 +14,14 @@ const MARK: u8 = 165;
 pub fn mark(room: &mut [u8])
     ensures { changed_bytes room.new ≡ 0 }
 {
-    let mut i: usize = 0;
-    while i < room.len() {
-        room[i] = MARK;
-        i = i + 1;
-    }
+    room.fill(MARK);
 }
 
 // How many bytes are no longer marked.
 pub fn changed(rest: &[u8]) -> usize
     ensures { result ≡ changed_bytes rest.now }
 {
-    let mut count: usize = 0;
-    let mut i: usize = 0;
-    while i < rest.len() {
-        count = count + unmarked(rest[i]);
-        i = i + 1;
-    }
-    count
-}
-
-#[tactic(auto, unfolding(crate::specs::Changed::changed_byte))]
-fn unmarked(byte: u8) -> usize
-    ensures value { result ≡ changed_byte byte }
-    ensures within { result ≤ 1 }
-{
-    if byte == MARK {
-        return 0;
-    }
-    1
+    rest.iter().filter(|byte| **byte != MARK).count()
 }
 
 // A write that fails is not told.
@@ -47,11 +30,11 @@ pub fn print_number(out: &impl Print, n: u64, behind: &[u8]) {
     let _ = out.write_all(behind);
 }
 
-// Prints how many bytes were written and how many behind them changed, then the written ones. Says whether these were printed.
-pub fn print_written(out: &impl Print, room: &[u8], written: usize) -> bool
+// Prints how many bytes were written and how many behind them changed, then the written ones. Fails where these are not printed.
+pub fn print_written(out: &impl Print, room: &[u8], written: usize) -> io::Result<()>
     requires { written ≤ length room.now }
 {
     print_number(out, written as u64, b" ");
     print_number(out, changed(&room[written..]) as u64, b"\n");
-    out.write_all(&room[..written]).is_ok()
+    out.write_all(&room[..written])
 }

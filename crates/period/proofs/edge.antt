@@ -1,2 +1,2 @@
 -- What the proof of `edge::at` uses.
-mod Read
+pub mod Read

@@ -53,16 +53,6 @@ pub record Weighable (amount weight over : ℕ) : Type 0 where
   pub over_most : over ≤ most_over
   pub most : amount * weight / over ≤ most_amount
 
--- what reading the i-th edge asks
-pub record EdgeReadable (links : List Link) (weights numbers : List ℕ) (i : ℕ) : Type 0 where
-  pub within : i < length numbers
-  pub below : get_or numbers i 0 < length links
-  pub sender : (get_or links (get_or numbers i 0) no_link).from < 64
-  pub over_least : 0 < (get_or links (get_or numbers i 0) no_link).over
-  pub over_most : (get_or links (get_or numbers i 0) no_link).over ≤ most_over
-  pub events_forward : get_or (edges_of links weights numbers) (6 * i + 4) 0 ≤ most_amount
-  pub events_back : get_or (edges_of links weights numbers) (6 * i + 5) 0 ≤ most_amount
-
 -- r is the i-th edge
 pub record EdgeAt (edges : List ℕ) (i : ℕ) (r : Edge) : Type 0 where
   pub from : r.from ≡ get_or edges (6 * i) 0

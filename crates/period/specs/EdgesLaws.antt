@@ -1,4 +1,4 @@
--- Laws of the lists of limits and edges: how many edges there are, what stands where, and which edges can be read.
+-- Laws of the lists of limits and edges: how many edges there are, and what stands where.
 use Prim.Native.Nat.{ℕ, zero, suc, ◌+◌, ◌*◌, ◌/◌, ◌<◌}
 use Rattle.std.specs.Prelude.{◌≡◌, length, get_or}
 use Rattle.std.proofs.Math.Path.{refl}
@@ -9,8 +9,7 @@ use Rattle.std.proofs.Math.ListN.{get_or-append}
 use Rattle.numbers.specs.WideRows.{rows_at}
 use Rattle.specification.specs.declared.Port.{Port}
 use Rattle.specification.specs.declared.Link.{Link}
-use Rattle.period.specs.Component.{graph_of, SmallEdges}
-use Rattle.period.specs.Edges.{limit_parts, limits_to, limits_of, edge_of, edges_of, Readable, EdgeReadable}
+use Rattle.period.specs.Edges.{limit_parts, limits_to, limits_of, edge_of, edges_of}
 
 module _ (ports : List Port) (weights : List ℕ) where
   pub limits_at : (p i : ℕ) → p < 64 → i < 2 → get_or (limits_of ports weights) (2 * p + i) 0 ≡ get_or (limit_parts ports weights p) i 0
@@ -36,19 +35,3 @@ module _ (links : List Link) (weights : List ℕ) where
 
   pub edges_count : (ks : List ℕ) → length (edges_of links weights ks) / 6 ≡ length ks
   edges_count ks = omega (arith, edges_length ks)
-
--- edges with small parts can be read
-pub edge_readable : {links : List Link} {weights numbers : List ℕ} {i : ℕ} → Readable links numbers → SmallEdges (graph_of [] [] (edges_of links weights numbers))
-    → i < length numbers
-    → EdgeReadable links weights numbers i
-edge_readable {links} {weights} {numbers} {i} r s l =
-    let e = edges_count links weights numbers in
-    record {
-      within = l;
-      below = r.of_links.below i l;
-      sender = r.senders i l;
-      over_least = r.over_least i l;
-      over_most = r.over_most i l;
-      events_forward = s.events_forward i (omega arith);
-      events_back = s.events_back i (omega arith);
-    }

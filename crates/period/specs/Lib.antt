@@ -1,6 +1,7 @@
 -- Periods of a component: the limits, the search, and what it ends with.
 pub mod Limits
 pub mod Component
+pub mod ComponentLaws
 pub mod Edges
 pub mod EdgesLaws
 pub mod Delay
@@ -9,7 +10,10 @@ pub mod Alike
 pub mod PricesLaws
 pub mod JustAbove
 pub mod LimitOf
+pub mod Limited
 pub mod Greatest
+pub mod Held
+pub mod Within
 pub mod Sums
 pub mod Search
 pub mod Try

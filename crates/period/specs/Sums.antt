@@ -2,7 +2,7 @@
 use Rattle.std.specs.Prelude.{ℕ, ◌≤◌, ◌≡◌, List, [], length}
 use Rattle.numbers.specs.Lists.{◌∈◌, sum}
 use Rattle.period.specs.Component.{graph_of, SmallEdges}
-use Rattle.period.specs.declared.cycle.Sums.{Sums}
+use Rattle.period.specs.declared.sums.Sums.{Sums}
 
 -- up to 64 numbers of edges with small parts
 pub record Summing (edges path : List ℕ) : Type 0 where

@@ -1,15 +1,14 @@
 -- One a/b tried: what is asked, and what it ends with.
-use Rattle.std.specs.Prelude.{ℕ, ◌+◌, ◌*◌, ◌/◌, ◌≤◌, ◌<◌, ◌≡◌, List, [], length}
+use Rattle.std.specs.Prelude.{ℕ, ◌+◌, ◌*◌, ◌/◌, ◌≤◌, ◌<◌, ◌≡◌, List, [], length, Result, Ok, Err}
 use Rattle.rounds.specs.Costs.{Priced}
 use Rattle.rounds.specs.Starts.{Stopped}
 use Rattle.rounds.specs.Back.{Enclosed, FoundCycle}
 use Rattle.period.specs.Component.{graph_of, SmallEdges, SmallTried}
 use Rattle.period.specs.Prices.{prices_of}
-use Rattle.period.specs.declared.search.Tried.{Tried}
-use Rattle.period.specs.declared.search.Tried.TheVariants.{Settled, Gaining}
+use Rattle.period.specs.declared.cycle.Cycle.{Cycle}
 
--- m edges between n ports that can be priced at a/b, and room for the rounds, the prices and the steps back
-pub record Trying (edges : List ℕ) (m a b n : ℕ) (work steps : List ℕ) : Type 0 where
+-- m edges between n ports that can be priced at a/b, and room for the rounds and the prices
+pub record Trying (edges : List ℕ) (m a b n : ℕ) (work : List ℕ) : Type 0 where
   pub counted : length edges / 6 ≡ m
   pub small_edges : SmallEdges (graph_of [] [] edges)
   pub small_period : SmallTried a b
@@ -18,14 +17,8 @@ pub record Trying (edges : List ℕ) (m a b n : ℕ) (work steps : List ℕ) : T
   pub some : 0 < n
   pub few : n ≤ 64
   pub work_room : 64 * n + 64 + 4 * m ≤ length work
-  pub steps_room : 64 ≤ length steps
 
--- the rounds stopped, or a part of the steps is a cycle that gains more than it loses
-abbrev pub TryResult : (cs : List ℕ) (n : ℕ) (work steps : List ℕ) → Tried → Type 0
-TryResult cs n work steps (Settled r) = Stopped cs work n r
-TryResult cs n work steps (Gaining part) = FoundCycle cs steps part
-
--- the buffers are as long as before
-pub record SameLengths (work work' steps steps' : List ℕ) : Type 0 where
-  pub of_work : length work' ≡ length work
-  pub of_steps : length steps' ≡ length steps
+-- the rounds stopped, or there is a cycle that gains more than it loses
+abbrev pub TryResult : (cs : List ℕ) (n : ℕ) (work : List ℕ) → Result ℕ Cycle → Type 0
+TryResult cs n work (Ok r) = Stopped cs work n r
+TryResult cs n work (Err c) = FoundCycle cs c.steps c.part

@@ -1,8 +1,9 @@
 // The connections of a component as edges, read of the table.
-ghost use Rattle.std.specs.Prelude.{◌≡◌, ◌*◌, ◌/◌};
-ghost use Rattle.table.specs.Slices.{links_of};
-ghost use Rattle.period.specs.Edges.{edges_of, Weighable, EdgeReadable, EdgeAt};
+ghost use Rattle.std.specs.Prelude.{◌≡◌, ◌*◌, ◌/◌, ◌<◌, length};
+ghost use Rattle.period.specs.Edges.{Weighable, EdgeAt};
+ghost use Rattle.period.specs.Held.{edges_in};
 
+use crate::constraint_graph::ConstraintGraph;
 use specification::{Events, Ticks};
 use table::links;
 
@@ -14,26 +15,24 @@ pub struct Edge {
     pub events: Events,
 }
 
-// The edge of the i-th connection: its events are weighed by the sender.
-pub fn at(links: &[u32], weights: &[u64; 64], numbers: &[u64], i: usize) -> Edge
-    requires { EdgeReadable (links_of links.now) weights.now numbers.now i }
-    ensures { EdgeAt (edges_of (links_of links.now) weights.now numbers.now) i result }
-{
-    let l = links::at(links, numbers[i] as usize);
-    let from = l.from;
-    let to = l.to;
-    let ticks = l.ticks;
-    let events = l.events;
-    let over = l.over as u64;
-    let weight = weights[from];
-    Edge {
-        from: from as u64,
-        to: to as u64,
-        ticks,
-        events: Events(
-            weighed(events.0, weight, over),
-            weighed(events.1, weight, over),
-        ),
+impl<'a> ConstraintGraph<'a> {
+    // The edge of the i-th connection: its events are weighed by the sender.
+    pub(crate) fn edge(&self, i: usize) -> Edge
+        requires { i < length self.now.numbers.now }
+        ensures { EdgeAt (edges_in self.now) i result }
+    {
+        let link = links::link(self.links, self.numbers[i] as usize);
+        let weight = self.weights[link.from];
+        let over = u64::from(link.over);
+        Edge {
+            from: link.from as u64,
+            to: link.to as u64,
+            ticks: link.ticks,
+            events: Events(
+                weighed(link.events.0, weight, over),
+                weighed(link.events.1, weight, over),
+            ),
+        }
     }
 }
 
@@ -43,8 +42,5 @@ fn weighed(amount: u64, weight: u64, over: u64) -> u64
     ensures { result ≡ amount * weight / over }
 {
     let product = amount * weight;
-    if over == 1 {
-        return product;
-    }
-    product / over
+    if over == 1 { product } else { product / over }
 }

@@ -1,6 +1,8 @@
 // The preview program: prints what the analysis of the join of three named files, FIRST SECOND ADDED, comes to, as the check program prints it.
 #![tactic(auto)]
 
+use input::Filled;
+
 fn main(rt: HostRuntime) {
     let mut first = input::room();
     let mut second = input::room();
@@ -10,12 +12,18 @@ fn main(rt: HostRuntime) {
     let second_read = input::fill_argument(&rt, 2, &mut second);
     let added_read = input::fill_argument(&rt, 3, &mut added);
     let n = preview_report::report(
-        &first,
-        first_read,
-        &second,
-        second_read,
-        &added,
-        added_read,
+        &Filled {
+            space: &first,
+            read: first_read,
+        },
+        &Filled {
+            space: &second,
+            read: second_read,
+        },
+        &Filled {
+            space: &added,
+            read: added_read,
+        },
         &mut text,
     );
     if rt.write_all(&text[..n]).is_err() {

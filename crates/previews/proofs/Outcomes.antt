@@ -1,7 +1,6 @@
 -- What each way through the preview comes to.
 use Prim.Native.Nat.{ℕ, ◌*◌, ◌≤◌, ◌<◌}
-use mathlib.Core.Path.{◌≡◌, refl, sym, ap, ◌∙◌}
-use mathlib.Core.Logic.{◌≢◌}
+use mathlib.Core.Path.{◌≡◌, refl, sym, ap}
 use mathlib.Core.List.{List}
 use native.Mathlib.Omega.{arith}
 use lib.ListN.{length, take}
@@ -10,17 +9,18 @@ use Rattle.specification.specs.Reading.{start}
 use Rattle.specification.specs.Encoding.{encode_table}
 use Rattle.specification.specs.Answers.{least_room}
 use Rattle.specification.specs.Analysed.{Analysed}
-use Rattle.specification.specs.Joining.{Join}
+use Rattle.specification.specs.Joining.{joined_table, Join}
 use Rattle.specification.specs.Previewing.{Previewed}
 use Rattle.table.specs.Slices.{table_of}
 use Rattle.encoding.specs.ReadBack.{Writable, table_read_back, no_fault_read, no_port_read, some_port_read}
 use Rattle.joins.specs.JoinedLaws.{joined_writable}
-use Rattle.joins.specs.JoinCases.{join_done}
-use Rattle.joins.specs.InputsRead.{refusal_of, InputsRead}
-use Rattle.joins.specs.InputsLaws.{read_refused, read_joined}
+use Rattle.joins.specs.Refusals.{refusal_of}
+use Rattle.joins.specs.InputsRead.{JoinFault, JoinedRead}
+use Rattle.joins.specs.InputsLaws.{read_refused, read_joined, no_fault}
 use Rattle.analysis.specs.Decided.{Decided}
 use Rattle.analysis.specs.AnalysedLaws.{analysed_faulty, analysed_decided}
-use Rattle.joins.specs.declared.inputs.Inputs.{Inputs}
+use Rattle.table.specs.declared.reading.Counts.{Counts}
+use Rattle.joins.specs.declared.inputs.InputFault.{InputFault}
 use Rattle.specification.specs.declared.Outcome.{Outcome}
 use Rattle.specification.specs.declared.JoinOutcome.{JoinOutcome}
 
@@ -36,23 +36,27 @@ module _ {t : Table} (w : Writable start t) where
   analysed_table room some d = analysed_decided (encode_table t) (sym (table_read_back w)) (some_port_read w some) room d
 
 -- ---- the join
-module _ {first second added ports links : List ℕ} {i : Inputs} (read : InputsRead first second added ports links i) where
-  pub preview_refused : (before : List ℕ) {r : JoinOutcome} → i.number ≢ 0 → r ≡ refusal_of i → Previewed first second added before before r
-  preview_refused before f e = record {
-    refused = λ _. rw e (read_refused read before f);
-    analysed = λ z. absurd (f (read.number ∙ z));
-    no_input = λ z. absurd (f (read.number ∙ z));
+module _ {first second added : List ℕ} where
+  pub preview_refused : {f : InputFault} {r : JoinOutcome} → JoinFault first second added f → (before : List ℕ) → r ≡ refusal_of f
+      → Previewed first second added before before r
+  preview_refused read before e = record {
+    refused = λ _. rw e (read_refused read before);
+    analysed = λ z. absurd (read.some z);
+    no_input = λ z. absurd (read.some z);
   }
 
-  module _ (z : i.number ≡ 0) where
-    pub read_writable : Writable start (table_of (take (2 * i.port_count) ports) (take (10 * i.link_count) links))
-    read_writable = rw (read_joined read z) (joined_writable first second added)
+  module _ {ports links ps ls : List ℕ} {c : Counts} (read : JoinedRead first second added ports links c) (ps_are : ps ≡ take (2 * c.ports) ports)
+      (ls_are : ls ≡ take (10 * c.links) links) where
+    table_is : table_of ps ls ≡ joined_table first second added
+    table_is = read_joined read ps_are ls_are
 
-    pub preview_analysed : {before after : List ℕ} {r : Outcome}
-        → Analysed (encode_table (table_of (take (2 * i.port_count) ports) (take (10 * i.link_count) links))) before after r
+    pub read_writable : Writable start (table_of ps ls)
+    read_writable = rw table_is (joined_writable first second added)
+
+    pub preview_analysed : {before after : List ℕ} {r : Outcome} → Analysed (encode_table (table_of ps ls)) before after r
         → Previewed first second added before after (record { number = r.number; place = r.place; input = 0; written = r.written })
     preview_analysed a = record {
-      refused = λ f. absurd (f (sym read.number ∙ z));
-      analysed = λ e. rw (ap (λ (j : Join). j.table) (join_done first second added e)) (rw (read_joined read z) at a);
+      refused = λ f. absurd (f (no_fault read));
+      analysed = λ e. rw (ap (λ (j : Join). j.table) read.is) (rw table_is at a);
       no_input = λ _. refl;
     }

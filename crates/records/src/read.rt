@@ -8,17 +8,9 @@ pub fn number_at(s: &[u8], at: usize, n: usize) -> u64
     requires n_bound { n ≤ 8 }
     ensures { (result ≡ number_at s.now at n) × (result < 2 ^ (8 * n)) }
 {
-    let mut v: u64 = 0;
-    let mut left = n;
-    while left > 0 {
-        left = left - 1;
-        v = wide(s[at + left]) + 256 * v;
+    let mut v = 0;
+    for &x in s[at..at + n].iter().rev() {
+        v = u64::from(x) + 256 * v;
     }
     v
-}
-
-fn wide(x: u8) -> u64
-    ensures { (result ≡ x) × (result < 256) }
-{
-    x as u64
 }

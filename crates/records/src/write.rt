@@ -1,4 +1,5 @@
-// Writes numbers as bytes, and answer records, each into the part of the answer buffer that begins at its place.
+// Writes numbers as bytes, and answer records, each into the part of the answer buffer that begins at its place. Lengths and kinds are the
+// numbers that the definitions of the records have.
 ghost use Rattle.std.specs.Prelude.{◌≡◌, ◌+◌, ◌*◌, ◌≤◌, length};
 ghost use Rattle.std.proofs.lemmas.List.Edits.{sets};
 ghost use Rattle.specification.specs.Bytes.{bytes, words, Written, encode, port_answer, buffer_answer, loop_answer, cycle_answer, floor_answer};
@@ -9,11 +10,9 @@ pub fn put_number(tail: &mut [u8], at: usize, n: usize, v: u64)
     ensures { tail.new ≡ sets tail.old at (bytes n v) }
 {
     let mut x = v;
-    let mut i: usize = 0;
-    while i < n {
-        tail[at + i] = (x % 256) as u8;
-        x = x / 256;
-        i = i + 1;
+    for byte in &mut tail[at..at + n] {
+        *byte = (x % 256) as u8;
+        x /= 256;
     }
 }
 
@@ -22,10 +21,8 @@ fn put_words(tail: &mut [u8], at: usize, numbers: &[u64])
     requires { at + 2 * length numbers.now ≤ length tail.old }
     ensures { tail.new ≡ sets tail.old at (words numbers.now) }
 {
-    let mut i: usize = 0;
-    while i < numbers.len() {
-        put_number(tail, at + 2 * i, 2, numbers[i]);
-        i = i + 1;
+    for (i, &number) in numbers.iter().enumerate() {
+        put_number(tail, at + 2 * i, 2, number);
     }
 }
 

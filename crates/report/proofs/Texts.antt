@@ -10,7 +10,8 @@ use Rattle.specification.specs.Bytes.{Written}
 use Rattle.specification.specs.Answers.{least_room}
 use Rattle.specification.specs.Analysed.{Analysed}
 use Rattle.specification.specs.declared.Outcome.{Outcome}
-use Rattle.input.specs.Input.{most_bytes, read_whole}
+use Rattle.input.specs.Input.{most_bytes, read_whole, stop_of, read_failed}
+use Rattle.input.specs.declared.Stop.{Stop}
 use Rattle.text.specs.Lines.{unread_line, long_line, not_whole_line}
 use Rattle.text.specs.Printed.{printed}
 use Rattle.report.specs.Report.{PrintedText, Reported}
@@ -24,23 +25,25 @@ pub printed_text : {s before after text text' : List ℕ} {o : Outcome} {r : ℕ
 printed_text h room w l = record { text = _; printed = printed_right h room; written = w; within = l }
 
 module _ {s before after : List ℕ} {count r : ℕ} where
-  pub reported_not_whole : (failed : Bool) → length s ≡ count → read_whole failed count ≡ false → Written (not_whole_line failed) before after r → r ≤ length after
+  pub reported_not_whole : (failed : Bool) {stop : Stop} → length s ≡ count → read_whole failed count ≡ false → stop ≡ stop_of failed
+      → Written (not_whole_line (read_failed stop)) before after r
+      → r ≤ length after
       → Reported s failed before after r
   unfolding read_whole not_whole_line
-  reported_not_whole true m e w l = record {
+  reported_not_whole true m e is w l = record {
     text = unread_line;
     is_text = record { unread = λ f. refl; long = λ f h. absurd (true≢false f); analysed = λ f h. absurd (true≢false f) };
-    written = w;
+    written = rw is at w;
     within = l;
   }
-  reported_not_whole false m e w l = record {
+  reported_not_whole false m e is w l = record {
     text = long_line;
     is_text = record {
       unread = λ f. absurd (true≢false (sym f));
       long = λ f h. refl;
       analysed = λ f h. absurd (omega (arith, leb-false count most_bytes e));
     };
-    written = w;
+    written = rw is at w;
     within = l;
   }
 

@@ -1,3 +1,3 @@
 -- What the proofs of `write_ports` and `write_buffers` use.
-mod Ports
-mod Buffers
+pub mod Ports
+pub mod Buffers

@@ -1,3 +1,2 @@
 -- What the proofs of sizes use.
-mod Cases
-mod Delays
+pub mod Cases

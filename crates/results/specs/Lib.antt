@@ -2,3 +2,4 @@
 pub mod Kept
 pub mod Sizes
 pub mod Named
+pub mod Held

@@ -9,6 +9,7 @@ use Rattle.specification.specs.declared.Link.{Link}
 use Rattle.specification.specs.Table.{Table, link, IsLink, IsBuffer}
 use Rattle.period.specs.Component.{most_amount, most_rate}
 use Rattle.specification.specs.Answers.{Size}
+use Rattle.results.specs.declared.kept.Kept.{Kept}
 use Rattle.results.specs.Kept.{a_at, b_at, start_at, fewest_events, size_at, PortNumbers, TableNumbers, BufferNumbers, timing_of}
 
 -- ---- fewest events, over plain numbers
@@ -39,13 +40,13 @@ product_most : {x y : ℕ} → x ≤ most_amount → y ≤ most_rate → x * y �
 product_most h k = omega (arith, mul-le-mul h k)
 
 -- the products of a buffer are small, and its sender's period is above zero
-pub record BufferProducts (l : Link) (weights kept : List ℕ) : Type 0 where
+pub record BufferProducts (l : Link) (weights : List ℕ) (kept : List Kept) : Type 0 where
   pub forward : l.ticks.0 * b_at kept l.from ≤ most_product
   pub back : l.ticks.1 * b_at kept l.from ≤ most_product
   pub period_some : 0 < get_or weights l.from 0 * a_at kept l.from
   pub period_most : get_or weights l.from 0 * a_at kept l.from ≤ most_product
 
-pub buffer_products : {l : Link} {weights kept : List ℕ} → BufferNumbers l weights kept → BufferProducts l weights kept
+pub buffer_products : {l : Link} {weights : List ℕ} {kept : List Kept} → BufferNumbers l weights kept → BufferProducts l weights kept
 buffer_products n = record {
   forward = product_most n.ticks_forward_lem n.sender.b_most;
   back = product_most n.ticks_back_lem n.sender.b_most;
@@ -54,10 +55,10 @@ buffer_products n = record {
 }
 
 -- b above zero is what is returned of b
-pub b_is : {weights kept : List ℕ} {p : ℕ} → PortNumbers weights kept p → max 1 (b_at kept p) ≡ b_at kept p
+pub b_is : {weights : List ℕ} {kept : List Kept} {p : ℕ} → PortNumbers weights kept p → max 1 (b_at kept p) ≡ b_at kept p
 b_is n = omega (arith, n.b_some)
 
-module _ {t : Table} {weights kept : List ℕ} {k : ℕ} (numbers : TableNumbers t weights kept) where
+module _ {t : Table} {weights : List ℕ} {kept : List Kept} {k : ℕ} (numbers : TableNumbers t weights kept) where
   pub buffer_numbers : IsLink t k → BufferNumbers (link t k) weights kept
   buffer_numbers i =
       let fits = numbers.well_formed.links k i.below in

@@ -2,6 +2,7 @@
 #![tactic(auto)]
 
 pub mod blocked;
-pub mod consistent;
-mod kept;
+mod consistent;
+pub mod kept;
 mod sizes;
+pub mod timings;

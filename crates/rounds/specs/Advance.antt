@@ -1,5 +1,5 @@
 -- What a round from a row of a buffer into the next asks and does.
-use Rattle.std.specs.Prelude.{ℕ, suc, ◌+◌, ◌*◌, ◌≤◌, ◌<◌, ◌≡◌, List, ◌++◌, length, take, drop}
+use Rattle.std.specs.Prelude.{ℕ, suc, ◌+◌, ◌*◌, ◌≤◌, ◌<◌, ◌≡◌, List, ◌++◌, length, take, drop, Option}
 use Rattle.rounds.specs.Relax.{CanRound, Raised}
 use Rattle.rounds.specs.Starts.{round_of, row, costs_in}
 
@@ -14,6 +14,6 @@ pub record Ahead (work : List ℕ) (r n edges : ℕ) : Type 0 where
   pub room : 64 * n + 64 + 4 * edges ≤ length work
 
 -- row r + 1 is a round from row r, and no other has changed; the round returns j
-pub record Advanced (cs : List ℕ) (r : ℕ) (work work' : List ℕ) (j : ℕ) : Type 0 where
+pub record Advanced (cs : List ℕ) (r : ℕ) (work work' : List ℕ) (j : Option ℕ) : Type 0 where
   pub made : work' ≡ with_row work (suc r) (round_of cs (row work r))
   pub raised : Raised (row work r) (round_of cs (row work r)) j

@@ -1,5 +1,5 @@
 -- What relaxing an edge, and a round over every edge, ask and do.
-use Rattle.std.specs.Prelude.{ℕ, ◌+◌, ◌*◌, ◌≤◌, ◌<◌, ◌^◌, ◌≡◌, ◌≢◌, List, length, get_or}
+use Rattle.std.specs.Prelude.{ℕ, ◌+◌, ◌*◌, ◌≤◌, ◌<◌, ◌^◌, ◌≡◌, List, length, get_or, Option, Some, None}
 use Rattle.rounds.specs.Costs.{count, from_of, to_of, gain_of, loss_of, most_cost, Priced}
 use Rattle.rounds.specs.Starts.{round_of}
 
@@ -17,18 +17,28 @@ pub record CanRound (cs s : List ℕ) : Type 0 where
   pub ports : length s ≡ 64
   pub starts : (j : ℕ) → get_or s j 0 ≤ 64 * most_cost
 
--- j is the lowest port whose start is greater in t than in s, or 64 where t is s
-pub record Raised (s t : List ℕ) (j : ℕ) : Type 0 where
-  pub same : j ≡ 64 → t ≡ s
-  pub grew : j ≢ 64 → get_or s j 0 < get_or t j 0
-  pub lower : (i : ℕ) → i < j → get_or t i 0 ≡ get_or s i 0
-
--- j is the lowest port whose start is greater in t than in s, or 64 where none is
-pub record Grown (s t : List ℕ) (j : ℕ) : Type 0 where
-  pub grew : j ≢ 64 → get_or s j 0 < get_or t j 0
+-- j is the lowest port whose start is greater in t than in s
+pub record Lowest (s t : List ℕ) (j : ℕ) : Type 0 where
+  pub a_port : j < 64
+  pub grew : get_or s j 0 < get_or t j 0
   pub lower : (i : ℕ) → i < j → get_or t i 0 ≤ get_or s i 0
 
--- a round makes t of the starts s, and returns j
-pub record Round (cs s t : List ℕ) (j : ℕ) : Type 0 where
+-- the lowest port whose start is greater in t than in s, or none is
+abbrev pub Grown : (s t : List ℕ) → Option ℕ → Type 0
+Grown s t None = (i : ℕ) → i < 64 → get_or t i 0 ≤ get_or s i 0
+Grown s t (Some j) = Lowest s t j
+
+-- the starts of the ports below j are those of s, and that of j is greater
+pub record Higher (s t : List ℕ) (j : ℕ) : Type 0 where
+  pub grew : get_or s j 0 < get_or t j 0
+  pub lower : (i : ℕ) → i < j → get_or t i 0 ≡ get_or s i 0
+
+-- the lowest port whose start is greater in t than in s, or t is s
+abbrev pub Raised : (s t : List ℕ) → Option ℕ → Type 0
+Raised s t None = t ≡ s
+Raised s t (Some j) = Higher s t j
+
+-- a round makes t of the starts s, and returns the port
+pub record Round (cs s t : List ℕ) (j : Option ℕ) : Type 0 where
   pub made : t ≡ round_of cs s
   pub raised : Raised s t j

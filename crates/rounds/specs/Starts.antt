@@ -1,8 +1,7 @@
 -- Rounds of starts from zero, each from the starts before it.
-use Rattle.std.specs.Prelude.{ℕ, zero, suc, ◌+◌, ◌-◌, ◌*◌, ◌≤◌, ◌<◌, max, ◌≡◌, ◌≢◌, List, length, get_or, set, take, drop, replicate}
+use Rattle.std.specs.Prelude.{ℕ, zero, suc, ◌+◌, ◌-◌, ◌*◌, ◌≤◌, ◌<◌, max, ◌≡◌, ◌≢◌, List, length, get_or, set, take, drop, replicate, Result, Ok, Err}
 use Rattle.rounds.specs.Costs.{count, from_of, to_of, gain_of, loss_of, Priced}
-use Rattle.rounds.specs.declared.starts.RoundsEnd.{RoundsEnd}
-use Rattle.rounds.specs.declared.starts.RoundsEnd.TheVariants.{Settled, Unsettled}
+use Rattle.rounds.specs.declared.starts.Unsettled.{Unsettled}
 
 -- what edge k asks of its receiver, from the starts s, and no less than 0
 abbrev pub asked : List ℕ → List ℕ → ℕ → ℕ
@@ -63,6 +62,6 @@ pub record Moving (cs rows : List ℕ) (n j : ℕ) : Type 0 where
   pub grew : start_of cs (n - 1) j < start_of cs n j
   pub lower : (i : ℕ) → i < j → start_of cs n i ≡ start_of cs (n - 1) i
 
-abbrev pub RoundsResult : List ℕ → List ℕ → ℕ → RoundsEnd → Type 0
-RoundsResult cs rows n (Settled r) = Stopped cs rows n r
-RoundsResult cs rows n (Unsettled j) = Moving cs rows n j
+abbrev pub RoundsResult : List ℕ → List ℕ → ℕ → Result ℕ Unsettled → Type 0
+RoundsResult cs rows n (Ok r) = Stopped cs rows n r
+RoundsResult cs rows n (Err u) = Moving cs rows n u.port

@@ -17,17 +17,14 @@ fn tight(rows: &[u64], r: usize, costs: &[u64], p: usize) -> usize
 {
     let below = 64 * r;
     let start = rows[below + 64 + p];
-    let mut k: usize = 0;
-    loop {
-        let at = 4 * k;
-        if costs[at + 1] as usize == p {
-            let from = costs[at] as usize;
-            if rows[below + from] + costs[at + 2] == start + costs[at + 3] {
-                return k;
-            }
+    let (edges, _) = costs.as_chunks::<4>();
+    for (k, &[from, to, gain, loss]) in edges.iter().enumerate() {
+        if to as usize == p && rows[below + from as usize] + gain == start + loss {
+            return k;
         }
-        k = k + 1;
     }
+    // Some edge is tight.
+    unreachable!()
 }
 
 // From the port that round n raised, back along tight edges, to the first port that comes twice. Step r is the edge from row r to row r + 1.
@@ -36,25 +33,19 @@ pub fn cycle_back(rows: &[u64], n: usize, costs: &[u64], port: usize, steps: &mu
     ensures found_cycle { FoundCycle costs.now steps.new result }
     ensures steps_len_unchanged { length steps.new ≡ length steps.old }
 {
-    // For each port that was met, the row where, plus 1.
-    let mut met = [0usize; 64];
+    // The row where each port was met.
+    let mut met = [None; 64];
     let mut p = port;
-    let mut r = n;
-    met[p] = r + 1;
-    while 0 < r {
-        r = r - 1;
+    met[p] = Some(n);
+    for r in (0..n).rev() {
         let k = tight(rows, r, costs, p);
         steps[r] = k as u64;
         p = costs[4 * k] as usize;
-        let row = met[p];
-        if 0 < row {
-            return Part {
-                first: r,
-                last: row - 1,
-            };
+        if let Some(last) = met[p] {
+            return Part { first: r, last };
         }
-        met[p] = r + 1;
+        met[p] = Some(r);
     }
-    // Not reached: n + 1 ports among n.
-    Part { first: 0, last: 0 }
+    // Else n + 1 ports would differ among n.
+    unreachable!()
 }

@@ -1,9 +1,10 @@
 // What document 01 says, as definitions (specs/), and the types that they and the code share. No function stands here.
 #![tactic(auto)]
 
+mod buffers;
 pub mod limits;
 
-// A span of time in ticks: an amount forward and an amount back.
+// A span of time in ticks: an amount forward and an amount back. A type of its own beside `Events`, so that the definitions keep them apart.
 #[derive(Clone, Copy)]
 pub struct Ticks(pub u64, pub u64);
 
@@ -12,6 +13,7 @@ pub struct Ticks(pub u64, pub u64);
 pub struct Events(pub u64, pub u64);
 
 // A port; its maximum rate is num / den events per tick, or 0 / 0 where it has none of its own.
+// That is no Option: the definitions read both parts as they stand in the record.
 #[derive(Clone, Copy)]
 pub struct Port {
     pub num: u64,
@@ -20,6 +22,7 @@ pub struct Port {
 
 // A connection or a buffer. Its ratio is num / den, its number of events `events` divided by `over`. The kind is that of its record: 2 a
 // connection, over 1; 3 a buffer, which has no events, over 1; 4 a connection whose number of events is a fraction.
+// The kind stays that number, and no enum: the definitions read it so (`is_buffer`, `encode_link`).
 #[derive(Clone, Copy)]
 pub struct Link {
     pub from: usize,
@@ -54,7 +57,18 @@ pub struct Before {
     pub port_may_come: bool,
 }
 
+impl Before {
+    // Nothing was read before.
+    pub const START: Before = Before {
+        ports: 0,
+        links: 0,
+        named: 0,
+        port_may_come: true,
+    };
+}
+
 // The record at a place, with the place behind it; a refusal with its number and the place where the record begins.
+// No Result: it is what the definition `record_at` gives. The code returns a Result, and `read_of` of `table` maps that to this.
 #[derive(Clone, Copy)]
 pub enum Read {
     PortRecord(Port, usize),
@@ -64,7 +78,7 @@ pub enum Read {
 }
 
 // What a call of the analysis, or of hiding a port, returns: the number, the byte at which the faulty record begins, 0 where the number
-// concerns no record, and how many bytes of the buffer were written.
+// concerns no record, and how many bytes of the buffer were written. This and the next are the C interface, so their numbers are no enums.
 #[repr(C)]
 #[derive(Clone, Copy)]
 pub struct Outcome {

@@ -1,30 +1,17 @@
--- Numbers stored one behind the other.
-use Prim.Native.Nat.{ℕ, suc, ◌+◌, ◌≤◌, ◌<◌}
-use mathlib.Core.Path.{◌≡◌, refl, ◌∙◌}
+-- Numbers stored in a part of a slice.
+use Prim.Native.Nat.{ℕ, ◌+◌, ◌≤◌}
+use mathlib.Core.Path.{◌≡◌}
 use mathlib.Core.List.{List}
 use native.Mathlib.Omega.{arith}
-use native.Mathlib.Nat.{add-zero}
-use native.Mathlib.Numerals.{add-one}
-use lib.ListN.{length, set, get_or, drop, length-set, drop_of_length-le}
-use lib.Seq.{sets, drop-cons}
+use borrow.Rule.Slice.PartMut.{put_mid}
+use lib.ListN.{length}
+use lib.Seq.{sets}
+use Rattle.std.proofs.Common.{append_assoc}
+use Rattle.std.proofs.lemmas.List.Edits.{sets-eq}
+use Rattle.std.proofs.lemmas.List.{drop-drop}
 
--- of xs, to be stored in l₀, i are stored: l is what there is now
-pub record Left (l₀ : List ℕ) (at : ℕ) (xs l : List ℕ) (i : ℕ) : Type 0 where
-  pub same : length l ≡ length l₀
-  pub rest : sets l (at + i) (drop i xs) ≡ sets l₀ at xs
-
-module _ {l₀ : List ℕ} {at : ℕ} {xs : List ℕ} where
-  pub left_all : Left l₀ at xs l₀ 0
-  left_all = record { same = refl; rest = rw add-zero }
-
-  module _ {l : List ℕ} {i : ℕ} where
-    pub left_less : i < length xs → Left l₀ at xs l i → Left l₀ at xs (set l (at + i) (get_or xs i 0)) (i + 1)
-    left_less h f =
-        let e : at + (i + 1) ≡ suc (at + i) = omega arith in
-        record {
-          same = length-set l (at + i) (get_or xs i 0) ∙ f.same;
-          rest = rw (e, add-one i) (rw (drop-cons xs i 0) at f.rest);
-        }
-
-    pub left_none : length xs ≤ i → Left l₀ at xs l i → l ≡ sets l₀ at xs
-    left_none h f = rw (drop_of_length-le xs {i = i}) at f.rest
+-- k is the length of the part, xs what the slice held, and ys what the part holds now
+pub put_mid_sets : (a k : ℕ) (xs ys zs : List ℕ) → ys ≡ zs → k ≡ length zs → a + k ≤ length xs → put_mid a k xs ys ≡ sets xs a zs
+put_mid_sets a k xs ys zs same long room =
+    let inside : a + length zs ≤ length xs = omega arith in
+    rw (same, sets-eq zs xs a inside, append_assoc, drop-drop k a xs, long)

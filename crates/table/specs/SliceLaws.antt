@@ -5,7 +5,7 @@ use Rattle.std.proofs.Math.Decide.{ℕ_discrete}
 use Rattle.std.proofs.Math.ListN.{get_or-append}
 use Rattle.std.proofs.Math.Seq.{get_or-append_seam}
 use Rattle.specification.specs.Table.{Table, no_port, no_link}
-use Rattle.table.specs.Slices.{port_numbers, link_numbers, port_in, link_in, firsts, ports_of, links_of, table_of, PortFields, LinkFields, SameLink}
+use Rattle.table.specs.Slices.{port_numbers, link_numbers, port_in, link_in, firsts, ports_of, links_of, table_of, LinkFields, SameLink}
 use Rattle.specification.specs.declared.Port.{Port}
 use Rattle.specification.specs.declared.Link.{Link}
 
@@ -43,9 +43,6 @@ port_in_lem s p h = get_or_firsts (port_in s) (length s / 2) p no_port (omega (a
 pub link_in_lem : (s : List ℕ) (k : ℕ) → k < length (links_of s) → get_or (links_of s) k no_link ≡ link_in s k
 unfolding links_of
 link_in_lem s k h = get_or_firsts (link_in s) (length s / 10) k no_link (omega (arith, count_links s))
-
-pub same_port : (s : List ℕ) (p : ℕ) {r : Port} → p < length (ports_of s) → PortFields r (port_in s p) → PortFields r (get_or (ports_of s) p no_port)
-same_port s p h f = rw (port_in_lem s p h) f
 
 -- equal in each field, equal as a whole
 pub same_link : (s : List ℕ) (k : ℕ) {r : Link} → k < length (links_of s) → LinkFields r (link_in s k) → SameLink r (get_or (links_of s) k no_link)

@@ -44,11 +44,7 @@ links_of s = firsts (link_in s) (length s / 10)
 abbrev pub table_of : (ports links : List ℕ) → Table
 table_of ports links = record { ports = ports_of ports; links = links_of links }
 
--- ---- r is the port or link x, said field by field: a field then needs no rewriting
-pub record PortFields (r x : Port) : Type 0 where
-  pub num : r.num ≡ x.num
-  pub den : r.den ≡ x.den
-
+-- ---- r is the link x, said field by field: a field then needs no rewriting
 pub record LinkFields (r x : Link) : Type 0 where
   pub from : r.from ≡ x.from
   pub to : r.to ≡ x.to

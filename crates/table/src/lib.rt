@@ -6,4 +6,6 @@ pub mod links;
 pub mod ports;
 pub mod reading;
 pub mod record;
-mod store;
+pub mod slices;
+
+pub use slices::Table;

@@ -1,20 +1,47 @@
 // Reads a whole table into two slices of numbers.
-ghost use Rattle.std.specs.Prelude.{◌≡◌, ◌+◌, ◌<◌, length};
+ghost use Rattle.std.specs.Prelude.{◌≡◌, ◌+◌, ◌*◌, ◌≤◌, ◌<◌, length, take};
 ghost use Rattle.specification.specs.Reading.{with_port, with_link, read_on, start, read_table};
 ghost use Rattle.specification.specs.Joining.{moved};
-ghost use Rattle.table.specs.Filled.{Room, Filled};
+ghost use Rattle.table.specs.Filled.{Room, Filled, front_of};
+ghost use Rattle.table.specs.WellFormed.{WellFormed};
+ghost use Rattle.table.specs.Held.{table_in};
 
-use crate::{links, ports, record};
-use specification::{Before, Link, Read};
+use crate::record::Record;
+use crate::{Table, links, ports, record};
+use refusals::{Fault, Refusal};
+use specification::{Before, Link};
 
-// The number of document 01, 0 where there is no fault; the place of the fault, 0 where there is none; and how many ports and links the
-// slices hold.
+// How many ports and links the slices hold: a join goes on behind them, so the slices are not cut as they are read.
 #[derive(Clone, Copy)]
 pub struct Counts {
-    pub number: u64,
-    pub place: usize,
-    pub port_count: usize,
-    pub link_count: usize,
+    pub ports: usize,
+    pub links: usize,
+}
+
+impl Counts {
+    // As many numbers as the ports and the links have.
+    pub fn cut<'a>(self, ports: &'a [u32], links: &'a [u32]) -> (&'a [u32], &'a [u32])
+        requires ports_in_bounds { 2 * self.ports ≤ length ports.now }
+        requires links_in_bounds { 10 * self.links ≤ length links.now }
+        ensures ports { result.0.now ≡ take (2 * self.ports) ports.now }
+        ensures links { result.1.now ≡ take (10 * self.links) links.now }
+    {
+        (
+            &ports[..ports::WIDTH * self.ports],
+            &links[..links::WIDTH * self.links],
+        )
+    }
+
+    // They are a table's.
+    pub fn table<'a>(self, ports: &'a [u32], links: &'a [u32]) -> Table<'a>
+        requires ports_in_bounds { 2 * self.ports ≤ length ports.now }
+        requires links_in_bounds { 10 * self.links ≤ length links.now }
+        requires well_formed { WellFormed (front_of self ports.now links.now) }
+        ensures { table_in result ≡ front_of self ports.now links.now }
+    {
+        let (ports, links) = self.cut(ports, links);
+        Table { ports, links }
+    }
 }
 
 fn with_port(b: Before) -> Before
@@ -22,20 +49,22 @@ fn with_port(b: Before) -> Before
     requires named_bound { b.named < 64 }
     ensures { result ≡ with_port b }
 {
-    let mut next = b;
-    next.ports = b.ports + 1;
-    next.named = b.named + 1;
-    next
+    Before {
+        ports: b.ports + 1,
+        named: b.named + 1,
+        ..b
+    }
 }
 
 fn with_link(b: Before) -> Before
     requires { b.links < 256 }
     ensures { result ≡ with_link b }
 {
-    let mut next = b;
-    next.links = b.links + 1;
-    next.port_may_come = false;
-    next
+    Before {
+        links: b.links + 1,
+        port_may_come: false,
+        ..b
+    }
 }
 
 // The link between the ports so many numbers higher.
@@ -44,71 +73,54 @@ fn move_up(l: Link, by: usize) -> Link
     requires to_bound { by + l.to < 64 }
     ensures { result ≡ moved by l }
 {
-    let mut next = l;
-    next.from = by + l.from;
-    next.to = by + l.to;
-    next
+    Link {
+        from: by + l.from,
+        to: by + l.to,
+        ..l
+    }
 }
 
 // Reads the records of an input behind what was read before it. Its own ports are numbered from 0; they and the ends of its links move up
 // behind the ports before them.
-pub fn read_on(s: &[u8], before: Before, ports: &mut [u32], links: &mut [u32]) -> Counts
+pub fn read_on(
+    s: &[u8],
+    before: Before,
+    ports: &mut [u32],
+    links: &mut [u32],
+) -> Result<Counts, Fault>
     requires { Room (length s.now) before (length ports.old) (length links.old) }
     ensures { Filled before (read_on s.now before) ports.old links.old ports.new links.new result }
 {
     let by = before.ports - before.named;
     let mut b = before;
     let mut at: usize = 0;
-    loop {
-        let port_count = b.ports;
-        let link_count = b.links;
-        match record::read_record(s, at, b) {
-            Read::PortRecord(p, next) => {
-                ports::store(ports, port_count, p);
+    while let Some((read, next)) = record::read_record(s, at, b)? {
+        match read {
+            Record::Port(p) => {
+                ports::store(ports, b.ports, p);
                 b = with_port(b);
-                at = next;
             }
-            Read::LinkRecord(l, next) => {
-                links::store(links, link_count, move_up(l, by));
+            Record::Link(l) => {
+                links::store(links, b.links, move_up(l, by));
                 b = with_link(b);
-                at = next;
-            }
-            Read::Refused(number, place) => {
-                return Counts {
-                    number,
-                    place,
-                    port_count,
-                    link_count,
-                };
-            }
-            Read::End => {
-                return Counts {
-                    number: 0,
-                    place: 0,
-                    port_count,
-                    link_count,
-                };
             }
         }
+        at = next;
     }
+    Ok(Counts {
+        ports: b.ports,
+        links: b.links,
+    })
 }
 
 // Reads a table: the case with nothing before it, and 12 where it has no port.
-pub fn read_table(s: &[u8], ports: &mut [u32], links: &mut [u32]) -> Counts
+pub fn read_table(s: &[u8], ports: &mut [u32], links: &mut [u32]) -> Result<Counts, Fault>
     requires { Room (length s.now) start (length ports.old) (length links.old) }
     ensures { Filled start (read_table s.now) ports.old links.old ports.new links.new result }
 {
-    let before = Before {
-        ports: 0,
-        links: 0,
-        named: 0,
-        port_may_come: true,
-    };
-    let mut read = read_on(s, before, ports, links);
-    if read.number == 0 {
-        if read.port_count == 0 {
-            read.number = 12;
-        }
+    let read = read_on(s, Before::START, ports, links)?;
+    if read.ports == 0 {
+        return Err(Refusal::NoPort.into());
     }
-    read
+    Ok(read)
 }

@@ -1,12 +1,22 @@
-// Reads one record of a table.
+// Reads one record of a table. The bytes and a place in them go together, as in the definitions, which the clauses equal.
 ghost use Rattle.std.specs.Prelude.{◌≡◌, ◌+◌, ◌≤◌, ◌<◌, length};
-ghost use Rattle.specification.specs.Reading.{length_faulty, part_faulty, parts_faulty, rate_faulty, ends_faulty, ticks_at, events_at, amount_faulty, events_faulty, delays_faulty, port_of, link_of, port_at, link_at, kind_at, record_at};
-ghost use Rattle.table.specs.Kinds.{is_of, kind_fault};
+ghost use Rattle.specification.specs.Bytes.{number_at};
+ghost use Rattle.specification.specs.Reading.{forward, back, length_faulty, part_faulty, parts_faulty, rate_faulty, ends_faulty, events_at, amount_faulty, events_faulty, delays_faulty, port_of, link_of, port_at, link_at, kind_at, record_at};
+ghost use Rattle.table.specs.Found.{found_at, read_of};
 
 use crate::four_bytes;
 use records::read::number_at;
-use specification::{Before, Events, Link, Port, Read, Ticks, limits};
+use refusals::{Fault, Refusal};
+use specification::{Before, Events, Link, Port, Ticks, limits};
 
+// What a record holds.
+#[derive(Clone, Copy)]
+pub enum Record {
+    Port(Port),
+    Link(Link),
+}
+
+#[tactic(auto, unfolding(specification::specs::Reading::length_faulty))]
 fn length_faulty(s: &[u8], at: usize) -> bool
     requires { at < length s.now }
     ensures { result ≡ length_faulty s.now at }
@@ -16,70 +26,53 @@ fn length_faulty(s: &[u8], at: usize) -> bool
         return true;
     }
     let n = number_at(s, at, 2) as usize;
-    if n < 2 {
-        return true;
-    }
-    left - 2 < n
+    n < 2 || left - 2 < n
 }
 
+#[tactic(auto, unfolding(specification::specs::Reading::part_faulty))]
 fn part_faulty(x: u64) -> bool
     ensures { result ≡ part_faulty x }
 {
-    if x == 0 {
-        return true;
-    }
-    limits::PART < x
+    x == 0 || limits::PART < x
 }
 
 // The two parts of a rate or ratio.
+#[tactic(auto, unfolding(specification::specs::Reading::parts_faulty))]
 fn parts_faulty(s: &[u8], at: usize) -> bool
     requires { at + 4 ≤ length s.now }
     ensures { result ≡ parts_faulty s.now at }
 {
-    if part_faulty(number_at(s, at, 2)) {
-        return true;
-    }
-    part_faulty(number_at(s, at + 2, 2))
+    part_faulty(number_at(s, at, 2)) || part_faulty(number_at(s, at + 2, 2))
 }
 
 // A rate: no rate is 0/0.
+#[tactic(auto, unfolding(specification::specs::Reading::rate_faulty))]
 fn rate_faulty(s: &[u8], at: usize) -> bool
     requires { at + 4 ≤ length s.now }
     ensures { result ≡ rate_faulty s.now at }
 {
     if number_at(s, at, 2) == 0 {
-        return number_at(s, at + 2, 2) != 0;
+        number_at(s, at + 2, 2) != 0
+    } else {
+        parts_faulty(s, at)
     }
-    parts_faulty(s, at)
 }
 
 // From and to.
+#[tactic(auto, unfolding(specification::specs::Reading::ends_faulty))]
 fn ends_faulty(s: &[u8], at: usize, named: usize) -> bool
     requires { at + 4 ≤ length s.now }
     ensures { result ≡ ends_faulty s.now at named }
 {
-    if named as u64 <= number_at(s, at, 2) {
-        return true;
-    }
-    named as u64 <= number_at(s, at + 2, 2)
-}
-
-fn ticks_at(s: &[u8], at: usize) -> Ticks
-    requires { at + 4 ≤ length s.now }
-    ensures { result ≡ ticks_at s.now at }
-{
-    let v = number_at(s, at, 4);
-    Ticks(four_bytes::forward_of(v), four_bytes::back_of(v))
+    named as u64 <= number_at(s, at, 2) || named as u64 <= number_at(s, at + 2, 2)
 }
 
 // An amount with a sign is above most, or below its negation.
+#[tactic(auto, unfolding(specification::specs::Reading::amount_faulty))]
 fn amount_faulty(most: u64, forward: u64, back: u64) -> bool
     ensures { result ≡ amount_faulty most forward back }
 {
-    if most < forward {
-        return true;
-    }
-    most < back
+    most < forward || most < back
 }
 
 // A number of events divided by `over`.
@@ -87,32 +80,34 @@ fn amount_faulty(most: u64, forward: u64, back: u64) -> bool
 fn events_faulty(events: Events, over: u64) -> bool
     ensures { result ≡ events_faulty events over }
 {
-    if over == 0 {
-        return true;
-    }
-    if limits::OVER < over {
-        return true;
-    }
-    amount_faulty(limits::EVENTS * over, events.0, events.1)
+    over == 0 || limits::OVER < over || amount_faulty(limits::EVENTS * over, events.0, events.1)
 }
 
+#[tactic(auto, unfolding(specification::specs::Reading::delays_faulty))]
 fn delays_faulty(ticks: Ticks, events: Events, over: u64) -> bool
     ensures { result ≡ delays_faulty ticks events over }
 {
-    if amount_faulty(limits::TICKS, ticks.0, ticks.1) {
-        return true;
-    }
-    events_faulty(events, over)
+    amount_faulty(limits::TICKS, ticks.0, ticks.1) || events_faulty(events, over)
 }
 
+// An amount with a sign: what it is forward, and what it is back.
+fn amounts_at(s: &[u8], at: usize) -> (u64, u64)
+    requires { at + 4 ≤ length s.now }
+    ensures { result ≡ (forward (number_at s.now at 4), back (number_at s.now at 4)) }
+{
+    four_bytes::amounts_of(number_at(s, at, 4))
+}
+
+#[tactic(auto, unfolding(specification::specs::Reading::events_at))]
 fn events_at(s: &[u8], at: usize) -> Events
     requires { at + 4 ≤ length s.now }
     ensures { result ≡ events_at s.now at }
 {
-    let v = number_at(s, at, 4);
-    Events(four_bytes::forward_of(v), four_bytes::back_of(v))
+    let (forward, back) = amounts_at(s, at);
+    Events(forward, back)
 }
 
+#[tactic(auto, unfolding(specification::specs::Reading::port_of))]
 fn port_of(s: &[u8], at: usize) -> Port
     requires { at + 4 ≤ length s.now }
     ensures { result ≡ port_of s.now at }
@@ -122,6 +117,7 @@ fn port_of(s: &[u8], at: usize) -> Port
     Port { num, den }
 }
 
+#[tactic(auto, unfolding(specification::specs::Reading::link_of))]
 fn link_of(s: &[u8], at: usize, ticks: Ticks, events: Events, over: u32, kind: u32) -> Link
     requires { at + 8 ≤ length s.now }
     ensures { result ≡ link_of s.now at ticks events over kind }
@@ -142,29 +138,27 @@ fn link_of(s: &[u8], at: usize, ticks: Ticks, events: Events, over: u32, kind: u
     }
 }
 
-// A port record whose length is right or not, at its place.
+// A port record of the right length, at its place, and the place behind it.
 #[tactic(auto, unfolding(specification::specs::Reading::port_at))]
-fn read_port(s: &[u8], at: usize, n: usize, before: Before) -> Read
-    requires { at + 2 + n ≤ length s.now }
-    ensures { result ≡ port_at s.now at n before }
+fn read_port(s: &[u8], at: usize, before: Before) -> Result<(Record, usize), Refusal>
+    requires { at + 8 ≤ length s.now }
+    ensures { found_at at result ≡ port_at s.now at 6 before }
 {
-    if n != 6 {
-        return Read::Refused(4, at);
-    }
     if !before.port_may_come {
-        return Read::Refused(5, at);
+        return Err(Refusal::LatePort);
     }
     if limits::PORTS <= before.ports {
-        return Read::Refused(6, at);
+        return Err(Refusal::Ports);
     }
     if rate_faulty(s, at + 4) {
-        return Read::Refused(8, at);
+        return Err(Refusal::Rate);
     }
-    Read::PortRecord(port_of(s, at + 4), at + 8)
+    Ok((Record::Port(port_of(s, at + 4)), at + 8))
 }
 
 // A connection or buffer with these events and their denominator, at its place; next is the place behind it. The denominator becomes a number
 // of 32 bits only here: given as one, the compiler would keep the record in memory.
+#[tactic(auto, using(crate::specs::RecordLaws::delays_over), unfolding(specification::specs::Reading::link_at, specification::specs::Reading::ticks_at))]
 fn read_link(
     s: &[u8],
     at: usize,
@@ -173,83 +167,78 @@ fn read_link(
     over: u64,
     kind: u32,
     next: usize,
-) -> Read
+) -> Result<(Record, usize), Refusal>
     requires { at + 16 ≤ length s.now }
-    ensures { result ≡ link_at s.now at before events over kind next }
+    ensures { found_at at result ≡ link_at s.now at before events over kind next }
 {
     if limits::LINKS <= before.links {
-        return Read::Refused(7, at);
+        return Err(Refusal::Links);
     }
     if ends_faulty(s, at + 4, before.named) {
-        return Read::Refused(9, at);
+        return Err(Refusal::Ends);
     }
     if parts_faulty(s, at + 8) {
-        return Read::Refused(10, at);
+        return Err(Refusal::Ratio);
     }
-    let ticks = ticks_at(s, at + 12);
+    let (forward, back) = amounts_at(s, at + 12);
+    let ticks = Ticks(forward, back);
     if delays_faulty(ticks, events, over) {
-        return Read::Refused(11, at);
+        return Err(Refusal::Delays);
     }
-    Read::LinkRecord(link_of(s, at + 4, ticks, events, over as u32, kind), next)
+    let link = link_of(s, at + 4, ticks, events, over as u32, kind);
+    Ok((Record::Link(link), next))
 }
 
-// Whether a record has this length and this kind. The length is looked at first: comparing four kinds in a row becomes a jump through a table,
-// which takes longer.
-fn is_of(n: usize, kind: u64, length: usize, of: u64) -> bool
-    ensures { result ≡ is_of n kind length of }
-{
-    if n != length {
-        return false;
-    }
-    kind == of
-}
-
-// The number of a record that is no port and has not the length of its kind.
-#[tactic(auto, unfolding(crate::specs::Kinds::kind_fault))]
-fn kind_fault(kind: u64) -> u64
-    ensures { result ≡ kind_fault kind }
-{
-    if kind < 2 {
-        return 3;
-    }
-    if 4 < kind {
-        return 3;
-    }
-    4
-}
-
-// The record of a kind, whose length n does not pass the end of the table.
-fn read_kind(s: &[u8], at: usize, n: usize, kind: u64, before: Before) -> Read
+// The record of a kind, whose length n does not pass the end of the table. The length is looked at first: comparing four kinds in a row
+// becomes a jump through a table, which takes longer.
+// A link keeps the number of its kind, as the definition `kind_at` has it.
+#[tactic(auto, unfolding(specification::specs::Reading::kind_at, specification::specs::Reading::port_at, specification::specs::Reading::connection_at, specification::specs::Reading::buffer_at, specification::specs::Reading::fraction_at))]
+fn read_kind(
+    s: &[u8],
+    at: usize,
+    n: usize,
+    kind: u64,
+    before: Before,
+) -> Result<(Record, usize), Refusal>
     requires { at + 2 + n ≤ length s.now }
-    ensures { result ≡ kind_at s.now at n kind before }
+    ensures { found_at at result ≡ kind_at s.now at n kind before }
 {
-    if kind == 1 {
-        return read_port(s, at, n, before);
+    match (n, kind) {
+        (6, 1) => read_port(s, at, before),
+        (18, 2) => read_link(s, at, before, events_at(s, at + 16), 1, 2, at + 20),
+        (14, 3) => read_link(s, at, before, Events(0, 0), 1, 3, at + 16),
+        (22, 4) => {
+            let over = number_at(s, at + 20, 4);
+            read_link(s, at, before, events_at(s, at + 16), over, 4, at + 24)
+        }
+        (_, 1..=4) => Err(Refusal::KindLength),
+        _ => Err(Refusal::Kind),
     }
-    if is_of(n, kind, 18, 2) {
-        return read_link(s, at, before, events_at(s, at + 16), 1, 2, at + 20);
-    }
-    if is_of(n, kind, 14, 3) {
-        return read_link(s, at, before, Events(0, 0), 1, 3, at + 16);
-    }
-    if is_of(n, kind, 22, 4) {
-        let over = number_at(s, at + 20, 4);
-        return read_link(s, at, before, events_at(s, at + 16), over, 4, at + 24);
-    }
-    Read::Refused(kind_fault(kind), at)
 }
 
-// The record at a place, tried for 2 to 11 in order.
-pub fn read_record(s: &[u8], at: usize, before: Before) -> Read
-    ensures { result ≡ record_at s.now at before }
+// The record at a place where there is one.
+#[tactic(auto, using(crate::specs::RecordLaws::whole), unfolding(specification::specs::Reading::record_at))]
+fn read_some(s: &[u8], at: usize, before: Before) -> Result<(Record, usize), Refusal>
+    requires { at < length s.now }
+    ensures { found_at at result ≡ record_at s.now at before }
 {
-    if s.len() <= at {
-        return Read::End;
-    }
     if length_faulty(s, at) {
-        return Read::Refused(2, at);
+        return Err(Refusal::Length);
     }
     let n = number_at(s, at, 2) as usize;
     let kind = number_at(s, at + 2, 2);
     read_kind(s, at, n, kind, before)
+}
+
+// The record at a place, tried for 2 to 11 in order, and the place behind it; none where the table ends.
+#[tactic(auto, unfolding(specification::specs::Reading::record_at))]
+pub fn read_record(s: &[u8], at: usize, before: Before) -> Result<Option<(Record, usize)>, Fault>
+    ensures { read_of result ≡ record_at s.now at before }
+{
+    if s.len() <= at {
+        return Ok(None);
+    }
+    read_some(s, at, before)
+        .map(Some)
+        .map_err(|refusal| Fault { refusal, place: at })
 }

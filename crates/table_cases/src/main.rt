@@ -1,10 +1,9 @@
 // Prints the number and the place that each of the tables on standard input gives: two bytes with a table's length, then the table.
 #![tactic(auto)]
 
-ghost use Rattle.std.specs.Prelude.{◌+◌, ◌≤◌, ◌<◌, ◌≡◌, length};
+ghost use Rattle.std.specs.Prelude.{◌<◌, ◌≡◌, length, IfSome};
 ghost use Rattle.specification.specs.Reading.{read_table};
 
-use table::reading::Counts;
 use table::{links, reading};
 
 fn main(rt: HostRuntime) {
@@ -13,47 +12,35 @@ fn main(rt: HostRuntime) {
     run(&rt, &buffer[..n]);
 }
 
-fn run(out: &impl Print, s: &[u8]) {
-    let mut at: usize = 0;
-    while at < s.len() {
-        let left = s.len() - at;
-        if left < 2 {
-            return;
-        }
-        let start = at + 2;
-        let size = table_size(s, at);
-        if left - 2 < size {
-            return;
-        }
-        let end = start + size;
-        print_line(out, &s[start..end]);
-        at = end;
+fn run(out: &impl Print, mut s: &[u8]) {
+    while let Some((table, rest)) = next_table(s) {
+        print_line(out, table);
+        s = rest;
     }
 }
 
-fn print_line(out: &impl Print, s: &[u8]) {
-    let r = read(s);
-    let _ = println!(out; "{} {}", r.number, r.place);
+// The first table, and what stands behind it.
+fn next_table(s: &[u8]) -> Option<(&[u8], &[u8])>
+    ensures { IfSome result (λ (table, rest). length rest.now < length s.now) }
+{
+    let (size, rest) = s.split_first_chunk::<2>()?;
+    rest.split_at_checked(usize::from(u16::from_le_bytes(*size)))
 }
 
-fn read(s: &[u8]) -> Counts
-    ensures number_value { result.number ≡ (read_table s.now).number }
-    ensures place_value { result.place ≡ (read_table s.now).place }
+fn print_line(out: &impl Print, s: &[u8]) {
+    let (number, place) = read(s);
+    let _ = println!(out; "{} {}", number, place);
+}
+
+// The number and the place.
+fn read(s: &[u8]) -> (u64, usize)
+    ensures number_value { result.0 ≡ (read_table s.now).number }
+    ensures place_value { result.1 ≡ (read_table s.now).place }
 {
     let mut ports = [0u32; 128];
     let mut links = links::room();
-    reading::read_table(s, &mut ports, &mut links)
-}
-
-fn table_size(s: &[u8], at: usize) -> usize
-    requires { at + 2 ≤ length s.now }
-    ensures { result < 65536 }
-{
-    wide(s[at]) + 256 * wide(s[at + 1])
-}
-
-fn wide(x: u8) -> usize
-    ensures { result < 256 }
-{
-    x as usize
+    match reading::read_table(s, &mut ports, &mut links) {
+        Ok(_) => (0, 0),
+        Err(fault) => (fault.refusal.number(), fault.place),
+    }
 }

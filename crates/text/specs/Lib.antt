@@ -4,4 +4,5 @@ pub mod Printed
 pub mod Places
 pub mod PrintedLaws
 pub mod Sizes
-pub mod Put
+pub mod Record
+pub mod Writer

@@ -23,10 +23,6 @@ is_record_lem {s} {at} e =
     let last = tests (has_line (number_at s (at + 2) 2) (number_at s at 2)) inner.1 in
     record { starts = ltb-true _ _ outer.0; ends = leb-true _ _ inner.0; form = last.0; period = last.1 }
 
-pub line_port : (kind size : ℕ) → has_line kind size ≡ true → kind ≡ 16 → size ≡ 22
-unfolding has_line
-line_port kind size h e = eqb-true size 22 (rw e at h)
-
 -- the length of each kind
 module _ {s : List ℕ} {at : ℕ} (h : Lies s at) where
   abbrev kind : ℕ
@@ -36,11 +32,8 @@ module _ {s : List ℕ} {at : ℕ} (h : Lies s at) where
   size = number_at s at 2
 
   pub size_port : kind ≡ 16 → size ≡ 22
-  size_port e = line_port kind size h.form e
-
-  pub over_port : kind ≡ 16 → 0 < number_at s (at + 12) 4
-  unfolding has_period
-  over_port e = ltb-true 0 _ (rw e at h.period)
+  unfolding has_line
+  size_port e = eqb-true size 22 (rw e at h.form)
 
   pub size_buffer : kind ≡ 17 → size ≡ 12
   unfolding has_line

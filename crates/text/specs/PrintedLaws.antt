@@ -11,7 +11,7 @@ use Rattle.records.specs.NumberLaws.{number_behind, encode_length, length_field,
 use Rattle.text.specs.Printed.{has_line, items_text, port_at, buffer_at, step_at, connection_at, loop_at, cycle_at, floor_at, has_period, is_record, record_line, record_lines}
 
 -- ---- what stands in front of the bytes only moves the place
-items_behind : (item item' : ℕ → List ℕ) (ahead : ℕ)
+pub items_behind : (item item' : ℕ → List ℕ) (ahead : ℕ)
     → ((at : ℕ) → item (ahead + at) ≡ item' at)
     → (size at n : ℕ) → items_text item size (ahead + at) n ≡ items_text item' size at n
 unfolding items_text
@@ -31,11 +31,11 @@ most_behind ahead m n =
     same_test (leb m n) (λ e. le-leb (ahead + m) (ahead + n) (omega (arith, leb-true m n e))) (λ e. lt-leb (ahead + m) (ahead + n) (omega (arith, leb-false m n e)))
 
 module _ (pre s : List ℕ) where
-  step_behind : (at : ℕ) → step_at (pre ++ s) (length pre + at) ≡ step_at s at
+  pub step_behind : (at : ℕ) → step_at (pre ++ s) (length pre + at) ≡ step_at s at
   unfolding step_at
   step_behind at = simp (add_assoc, number_behind)
 
-  connection_behind : (at : ℕ) → connection_at (pre ++ s) (length pre + at) ≡ connection_at s at
+  pub connection_behind : (at : ℕ) → connection_at (pre ++ s) (length pre + at) ≡ connection_at s at
   unfolding connection_at
   connection_behind at = simp number_behind
 
@@ -53,7 +53,7 @@ module _ (pre s : List ℕ) where
   unfolding is_record has_period
   record_behind at = simp (add_assoc, number_behind, length-append, less_behind, most_behind)
 
-  lines_behind : (n at number : ℕ) → record_lines (pre ++ s) n (length pre + at) number ≡ record_lines s n at number
+  pub lines_behind : (n at number : ℕ) → record_lines (pre ++ s) n (length pre + at) number ≡ record_lines s n at number
   unfolding record_lines
   lines_behind zero at number = refl
   lines_behind (suc n) at number =

@@ -3,4 +3,5 @@
 
 mod lines;
 pub mod print;
-mod put;
+mod record;
+mod writer;

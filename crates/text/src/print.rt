@@ -1,97 +1,44 @@
 // Prints an answer: its number and place, and a line for each of its records.
-ghost use Rattle.std.specs.Prelude.{◌≡◌, ◌+◌, ◌*◌, ◌≤◌, length};
-ghost use Rattle.specification.specs.Bytes.{number_at, Written};
+ghost use Rattle.std.specs.Prelude.{◌≤◌, length};
+ghost use Rattle.specification.specs.Bytes.{Written};
+ghost use Rattle.input.specs.Input.{read_failed};
 ghost use Rattle.text.specs.Lines.{place_text, not_whole_line};
-ghost use Rattle.text.specs.Printed.{has_line, is_record, record_line, record_lines, printed, printed_room};
-ghost use Rattle.text.specs.Places.{Lies};
-ghost use Rattle.text.specs.Put.{Put};
+ghost use Rattle.text.specs.Printed.{record_lines, printed, printed_room};
+ghost use Rattle.text.specs.Writer.{HasRoom, Wrote};
 
-use crate::lines::{put_buffer, put_cycle, put_floor, put_loop, put_port};
-use crate::put::{put_field, put_word};
-use records::read::number_at;
+use crate::record::Records;
+use crate::writer::Writer;
+use input::Stop;
 
-fn has_line(kind: u64, size: u64) -> bool
-    ensures { result ≡ has_line kind size }
+fn write_records(records: &[u8], out: &mut Writer)
+    requires { HasRoom (record_lines records.now (length records.now) 0 0) out.old }
+    ensures { Wrote (record_lines records.now (length records.now) 0 0) out.old out.new }
 {
-    match kind {
-        16 => size == 22,
-        17 => size == 12,
-        18 => size >= 2,
-        19 => size >= 2,
-        20 => size == 4,
-        _ => false,
+    for (number, record) in (Records { rest: records }).enumerate() {
+        record.write(number as u64, out);
     }
 }
 
-fn is_record(s: &[u8], at: usize) -> bool
-    requires { at ≤ length s.now }
-    ensures { result ≡ is_record s.now at }
+// The place of a number, that of an outcome, as C has it; 0 is printed without one.
+#[tactic(auto, using(crate::specs::Writer::wrote_nothing), unfolding(crate::specs::Lines::place_text))]
+fn write_place(number: u64, place: usize, out: &mut Writer)
+    requires { HasRoom (place_text number place) out.old }
+    ensures { Wrote (place_text number place) out.old out.new }
 {
-    if at + 3 >= s.len() {
-        return false;
+    if number != 0 {
+        out.field(b" at ", place as u64);
     }
-    let size = number_at(s, at, 2);
-    if at + 2 + size as usize > s.len() {
-        return false;
-    }
-    let kind = number_at(s, at + 2, 2);
-    if !has_line(kind, size) {
-        return false;
-    }
-    if kind == 16 {
-        return 0 < number_at(s, at + 12, 4);
-    }
-    true
 }
 
-fn put_record(s: &[u8], at: usize, number: u64, text: &mut [u8], to: usize) -> usize
-    requires lies { Lies s.now at }
-    requires room { to + 12 * (2 + number_at s.now at 2) ≤ length text.old }
-    ensures { Put (record_line s.now at number) text.old text.new to result }
+#[tactic(auto, unfolding(crate::specs::Printed::printed, crate::specs::Lines::answer_line))]
+fn write_answer(number: u64, place: usize, records: &[u8], out: &mut Writer)
+    requires { HasRoom (printed number place records.now) out.old }
+    ensures { Wrote (printed number place records.now) out.old out.new }
 {
-    let size = number_at(s, at, 2) as usize;
-    let kind = number_at(s, at + 2, 2);
-    if kind == 16 {
-        return put_port(s, at, number, text, to);
-    }
-    if kind == 17 {
-        return put_buffer(s, at, text, to);
-    }
-    if kind == 18 {
-        return put_loop(s, at, (size - 2) / 4, text, to);
-    }
-    if kind == 19 {
-        return put_cycle(s, at, number, (size - 2) / 2, text, to);
-    }
-    put_floor(s, at, text, to)
-}
-
-fn put_records(s: &[u8], text: &mut [u8], to: usize) -> usize
-    requires { to + 12 * length s.now ≤ length text.old }
-    ensures { Put (record_lines s.now (length s.now) 0 0) text.old text.new to result }
-{
-    let mut end = to;
-    let mut at: usize = 0;
-    let mut number: u64 = 0;
-    while is_record(s, at) {
-        end = put_record(s, at, number, text, end);
-        at = at + 2 + number_at(s, at, 2) as usize;
-        number = number + 1;
-    }
-    end
-}
-
-// The place of a number; 0 is printed without one.
-#[tactic(auto, using(crate::specs::Put::put_nothing), unfolding(crate::specs::Lines::place_text))]
-fn put_place(number: u64, place: usize, text: &mut [u8], to: usize) -> usize
-    requires { to + 24 ≤ length text.old }
-    ensures put { Put (place_text number place) text.old text.new to result }
-    ensures within { result ≤ to + 24 }
-{
-    if number == 0 {
-        return to;
-    }
-    put_field(text, to, b" at ", place as u64)
+    out.field(b"answer ", number);
+    write_place(number, place, out);
+    out.word(b"\n");
+    write_records(records, out);
 }
 
 // The printed form of an answer: its number, its place and its records' lines. Returns how many bytes of the text it wrote.
@@ -100,10 +47,9 @@ pub fn print(number: u64, place: usize, records: &[u8], text: &mut [u8]) -> usiz
     ensures written { Written (printed number place records.now) text.old text.new result }
     ensures upper_bound { result ≤ length text.new }
 {
-    let mut end = put_field(text, 0, b"answer ", number);
-    end = put_place(number, place, text, end);
-    end = put_word(text, end, b"\n");
-    put_records(records, text, end)
+    let mut out = Writer::new(text);
+    write_answer(number, place, records, &mut out);
+    out.at
 }
 
 // A line as it stands, at the front of the text.
@@ -112,17 +58,20 @@ pub fn print_line(line: &[u8], text: &mut [u8]) -> usize
     ensures written { Written line.now text.old text.new result }
     ensures upper_bound { result ≤ length text.new }
 {
-    put_word(text, 0, line)
+    let mut out = Writer::new(text);
+    out.word(line);
+    out.at
 }
 
 // The line of an input that was not read whole, at the front of the text.
-pub fn print_not_whole(failed: bool, text: &mut [u8]) -> usize
+#[tactic(auto, unfolding(crate::specs::Lines::not_whole_line))]
+pub fn print_not_whole(stop: Stop, text: &mut [u8]) -> usize
     requires { 14 ≤ length text.old }
-    ensures written { Written (not_whole_line failed) text.old text.new result }
+    ensures written { Written (not_whole_line (read_failed stop)) text.old text.new result }
     ensures upper_bound { result ≤ length text.new }
 {
-    if failed {
-        return print_line(b"answer unread\n", text);
+    match stop {
+        Stop::Unread => print_line(b"answer unread\n", text),
+        Stop::Long => print_line(b"answer long\n", text),
     }
-    print_line(b"answer long\n", text)
 }

@@ -1,4 +1,5 @@
 // The analysis, the join and its preview, and hiding a port, as programs in C and Rust call them (bindings/); `vundayre_c` exports them.
+// It repeats each with its clauses, since the C interface wants a crate of its own.
 #![tactic(auto)]
 
 ghost use Rattle.std.specs.Prelude.{length};

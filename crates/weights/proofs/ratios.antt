@@ -1,3 +1,3 @@
 -- What the proof of `ratios_of` uses.
-mod Decided
-mod Unit
+pub mod Decided
+pub mod Unit

@@ -1,6 +1,7 @@
 -- What the proofs of the weights use.
-mod Lessening
-mod Difference
-mod Smallest
-mod Same
-mod Weighted
+pub mod Lessening
+pub mod Difference
+pub mod Smallest
+pub mod Same
+pub mod Bounded
+pub mod Weighted

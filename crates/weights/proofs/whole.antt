@@ -1,4 +1,3 @@
 -- What the proofs of the scaled weights use.
-mod Units
-mod Multiplying
+pub mod Multiplying
 pub mod Conditions

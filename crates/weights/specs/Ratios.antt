@@ -1,13 +1,16 @@
 -- Numbers 13 and 14, and what the ratios of a table come to.
-use Rattle.std.specs.Prelude.{ℕ, ◌+◌, ◌*◌, ◌≤◌, ◌<◌, get_or, ◌≡◌, Bool, cond, List}
+use Rattle.std.specs.Prelude.{ℕ, ◌+◌, ◌*◌, ◌≤◌, ◌<◌, get_or, ◌≡◌, List, Result, Ok, Err}
 use Rattle.specification.specs.Table.{Table}
 use Rattle.specification.specs.Ratios.{Overweight, DisagreeingLoop}
 use Rattle.ways.specs.Labels.{Components}
 use Rattle.forest.specs.Loop.{steps_from}
 use Rattle.weights.specs.Weighed.{HasWeights}
-use Rattle.weights.specs.declared.ratios.Agreement.{Agreement}
-use Rattle.weights.specs.declared.ratios.Agreement.TheVariants.{Agreeing, Disagreeing, OverLimit}
-use Rattle.weights.specs.declared.ratios.Ratios.{Ratios}
+use Rattle.refusals.specs.declared.Refusal.{Refusal}
+use Rattle.refusals.specs.declared.Refusal.TheVariants.{Ratios, Weight}
+use Rattle.refusals.specs.Numbers.{number_of as refusal_number}
+use Rattle.weights.specs.declared.ratios.Discord.{Discord}
+use Rattle.weights.specs.declared.ratios.Discord.TheVariants.{Loop, OverLimit}
+use Rattle.weights.specs.declared.ratios.Weighted.{Weighted}
 
 -- the loop as numbers: of each step the link's number and its direction, 0 along and 1 against
 pub record LoopNumbers (t : Table) (numbers : List ℕ) (steps : ℕ) : Type 0 where
@@ -15,22 +18,26 @@ pub record LoopNumbers (t : Table) (numbers : List ℕ) (steps : ℕ) : Type 0 w
   pub few : steps ≤ 64
   pub directions : (i : ℕ) → i < steps → get_or numbers (2 * i + 1) 0 ≤ 1
 
+-- the refusal that says so
+abbrev pub refusal_of : Discord → Refusal
+refusal_of (Loop steps) = Ratios
+refusal_of OverLimit = Weight
+
 -- the number of document 01
-abbrev pub number_of : Agreement → ℕ
-number_of Agreeing = 0
-number_of (Disagreeing steps) = 13
-number_of OverLimit = 14
+abbrev pub number_of : Result Weighted Discord → ℕ
+number_of (Ok r) = 0
+number_of (Err d) = refusal_number (refusal_of d)
 
 -- all of 13 is tried before 14; the numbers hold the loop of 13 and are else unchanged
-abbrev pub AgreementHolds : Table → Ratios → (numbers numbers' : List ℕ) → Agreement → Type 0
-AgreementHolds t r numbers numbers' Agreeing = HasWeights t r.weights × (numbers' ≡ numbers)
-AgreementHolds t r numbers numbers' (Disagreeing steps) = LoopNumbers t numbers' steps
-AgreementHolds t r numbers numbers' OverLimit = Overweight t × (numbers' ≡ numbers)
+abbrev pub DiscordHolds : Table → (numbers numbers' : List ℕ) → Discord → Type 0
+DiscordHolds t numbers numbers' (Loop steps) = LoopNumbers t numbers' steps
+DiscordHolds t numbers numbers' OverLimit = Overweight t × (numbers' ≡ numbers)
 
--- what ratios that agree come to, by whether some weight passes 10,000
-unfoldable pub agreement_of : Bool → Agreement
-agreement_of passes = cond passes OverLimit Agreeing
-
-pub record IsRatios (t : Table) (r : Ratios) (numbers numbers' : List ℕ) : Type 0 where
+-- where the ratios agree and no weight passes 10,000, the components and the weights
+pub record HasRatios (t : Table) (r : Weighted) : Type 0 where
   pub components : Components t r.labels
-  pub outcome : AgreementHolds t r numbers numbers' r.agreement
+  pub weights : HasWeights t r.weights
+
+abbrev pub IsRatios : Table → (numbers numbers' : List ℕ) → Result Weighted Discord → Type 0
+IsRatios t numbers numbers' (Ok r) = HasRatios t r × (numbers' ≡ numbers)
+IsRatios t numbers numbers' (Err d) = DiscordHolds t numbers numbers' d

@@ -1,11 +1,10 @@
 -- What working out the weights asks and ends with.
-use Rattle.std.specs.Prelude.{ℕ, ◌≤◌, ◌<◌, ◌≡◌, Bool, true, false, List, get_or, length}
+use Rattle.std.specs.Prelude.{ℕ, ◌≤◌, ◌<◌, ◌≡◌, List, get_or, length}
 use Rattle.table.specs.WellFormed.{WellFormed}
 use Rattle.specification.specs.Table.{Table, port_count, IsPort, IsLink}
-use Rattle.specification.specs.Ratios.{Weights, WholeWeights, most_weight, Overweight}
+use Rattle.specification.specs.Ratios.{Weights, WholeWeights, most_weight}
 use Rattle.ways.specs.Labels.{Components}
 use Rattle.forest.specs.PortRows.{PortRows, Fits}
-use Rattle.weights.specs.declared.weights.Weighed.{Weighed}
 
 -- rows that fit every link
 pub record Weighing (t : Table) (labels : List ℕ) (rows : List (List ℕ)) : Type 0 where
@@ -29,10 +28,6 @@ pub record BaseOverweight (t : Table) : Type 0 where
   pub a_port : IsPort t at
   pub passes : most_weight < w at
 
-pub record IsBaseWeighed (t : Table) (r : Weighed) : Type 0 where
-  pub within : r.within ≡ true → HasBaseWeights t r.weights
-  pub passes : r.within ≡ false → BaseOverweight t
-
 -- the weights, which make every δ whole, none above 10,000, and 0 past the ports
 pub record HasWeights (t : Table) (weights : List ℕ) : Type 0 where
   pub long : length weights ≡ 64
@@ -45,8 +40,3 @@ pub record Ones (ports : ℕ) (weights : List ℕ) : Type 0 where
   pub long : length weights ≡ 64
   pub one : (p : ℕ) → p < ports → get_or weights p 0 ≡ 1
   pub rest : (p : ℕ) → ports ≤ p → get_or weights p 0 ≡ 0
-
--- the weights, or some weight passes 10,000
-pub record IsWeighed (t : Table) (weights : List ℕ) (passes : Bool) : Type 0 where
-  pub within : passes ≡ false → HasWeights t weights
-  pub over : passes ≡ true → Overweight t

@@ -4,3 +4,7 @@
 pub mod ratios;
 mod weights;
 mod whole;
+
+// Some weight passes 10,000.
+#[derive(Clone, Copy)]
+struct OverLimit;

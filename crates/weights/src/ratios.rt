@@ -1,121 +1,89 @@
 // The components, ratios and weights of a table: numbers 13 and 14.
-ghost use Rattle.table.specs.Slices.{table_of};
-ghost use Rattle.table.specs.WellFormed.{WellFormed};
-ghost use Rattle.std.specs.Prelude.{◌≤◌, ◌≡◌, length};
+ghost use Rattle.std.specs.Prelude.{◌≤◌, ◌≡◌, length, MatchResult};
+ghost use Rattle.table.specs.Held.{table_in};
 ghost use Rattle.ways.specs.Labels.{Components};
 ghost use Rattle.forest.specs.PortRows.{PartsAtMost};
-ghost use Rattle.weights.specs.Ratios.{number_of, agreement_of, IsRatios};
+ghost use Rattle.weights.specs.Weighed.{HasBaseWeights};
+ghost use Rattle.weights.specs.Ratios.{refusal_of, DiscordHolds, IsRatios};
+ghost use Rattle.weights.specs.declared.ratios.Discord.TheVariants.{OverLimit};
 
 use crate::{weights, whole};
-use exponents::{divisors, primes};
-use forest::{agreement, loops, parts, spanning};
-use table::{links, ports};
+use exponents::tables::FactorTables;
+use forest::{Forest, parts};
+use refusals::Refusal;
+use table::Table;
 use ways::components;
 
+// Of each port the lowest port of its component, and its weight. Two arrays: the search is lent the weights alone.
 #[derive(Clone, Copy)]
-pub enum Agreement {
-    // The ratios agree, and no weight passes 10,000.
-    Agreeing,
-    // So many steps of a loop disagree: 13.
-    Disagreeing(usize),
-    // Some weight passes 10,000: 14.
-    OverLimit,
-}
-
-// Document 01's number for it.
-pub fn number_of(agreement: Agreement) -> u64
-    ensures { result ≡ number_of agreement }
-{
-    match agreement {
-        Agreement::Agreeing => 0,
-        Agreement::Disagreeing(_) => 13,
-        Agreement::OverLimit => 14,
-    }
-}
-
-#[derive(Clone, Copy)]
-pub struct Ratios {
-    pub agreement: Agreement,
+pub struct Weighted {
     pub labels: [usize; 64],
     pub weights: [u64; 64],
 }
 
-// The numbers receive the loop of 13, of each step the link's number and its direction.
-pub fn ratios_of(ports: &[u32], links: &[u32], numbers: &mut [u64]) -> Ratios
-    requires well_formed { WellFormed (table_of ports.now links.now) }
-    requires in_bounds { 128 ≤ length numbers.old }
-    ensures { IsRatios (table_of ports.now links.now) result numbers.old numbers.new }
-{
-    let labels = components::components(ports, links);
-    let most = parts::greatest_part(ports, links);
-    if most == 0 {
-        let mut weights = weights::ones(ports::count(ports));
-        let passes = whole::make_whole(ports, links, &labels, &mut weights);
-        return Ratios {
-            agreement: agreement_of(passes),
-            labels,
-            weights,
-        };
-    }
-    by_rows(ports, links, labels, most, numbers)
+// Why there are no weights.
+#[derive(Clone, Copy)]
+pub enum Discord {
+    // So many steps of a loop disagree: 13. The caller's buffer holds them.
+    Loop(usize),
+    // Some weight passes 10,000: 14.
+    OverLimit,
 }
 
-// The same by rows of exponents, where some ratio is not 1. Its 56 KB of stack are not there while the periods are searched.
+impl From<crate::OverLimit> for Discord {
+    ghost from_gives = { λ _ d. d ≡ OverLimit };
+
+    fn from(_: crate::OverLimit) -> Discord {
+        Discord::OverLimit
+    }
+}
+
+impl From<Discord> for Refusal {
+    ghost from_gives = { λ d r. r ≡ refusal_of d };
+
+    fn from(discord: Discord) -> Refusal {
+        match discord {
+            Discord::Loop(_) => Refusal::Ratios,
+            Discord::OverLimit => Refusal::Weight,
+        }
+    }
+}
+
+// The numbers receive the loop of 13, of each step the link's number and its direction.
+pub fn ratios_of(table: &Table, numbers: &mut [u64]) -> Result<Weighted, Discord>
+    requires { 128 ≤ length numbers.old }
+    ensures { IsRatios (table_in table.now) numbers.old numbers.new result }
+{
+    let labels = components::components(table);
+    let most = parts::greatest_part(table);
+    let mut weights = if most == 0 {
+        weights::ones(table.port_count())
+    } else {
+        by_rows(table, &labels, most, numbers)?
+    };
+    whole::make_whole(table, &labels, &mut weights)?;
+    Ok(Weighted { labels, weights })
+}
+
+// Document 01's weights by rows of exponents, where some ratio is not 1. Its 56 KB of stack are not there while the periods are searched.
 #[inline(never)]
 fn by_rows(
-    ports: &[u32],
-    links: &[u32],
-    labels: [usize; 64],
+    table: &Table,
+    labels: &[usize; 64],
     most: u64,
     numbers: &mut [u64],
-) -> Ratios
-    requires well_formed { WellFormed (table_of ports.now links.now) }
-    requires components { Components (table_of ports.now links.now) labels }
-    requires parts_at_most { PartsAtMost (table_of ports.now links.now) most }
+) -> Result<[u64; 64], Discord>
+    requires components { Components (table_in table.now) labels.now }
+    requires parts_at_most { PartsAtMost (table_in table.now) most }
     requires in_bounds { 128 ≤ length numbers.old }
-    ensures { IsRatios (table_of ports.now links.now) result numbers.old numbers.new }
+    ensures { MatchResult result (λ weights. HasBaseWeights (table_in table.now) weights × (numbers.new ≡ numbers.old)) (DiscordHolds (table_in table.now) numbers.old numbers.new) }
 {
-    let divisors = divisors::least_divisors();
-    let places = primes::all_places();
-    let mut rows = [[1000u16; 168]; 64];
-    let f = spanning::spanned(ports, links, &labels, &mut rows, &divisors, &places);
-    let reach = f.reach;
-    let via = f.via;
-    let k = agreement::conflict(
-        ports, links, &labels, &reach, &via, &rows, &divisors, &places,
-    );
-    if k < links::count(links) {
-        let steps = loops::close(ports, links, &labels, &reach, &via, k, numbers);
-        let weights = [0u64; 64];
-        return Ratios {
-            agreement: Agreement::Disagreeing(steps),
-            labels,
-            weights,
-        };
+    let tables = FactorTables::new();
+    let mut rows = [[1000; 168]; 64];
+    let forest = Forest::spanning(table, labels, &mut rows, &tables);
+    if let Some(k) = forest.conflict(&rows, &tables) {
+        let steps = forest.close(k, numbers);
+        return Err(Discord::Loop(steps));
     }
-    let w = weights::weigh(ports, links, &labels, &rows, most);
-    let mut weights = w.weights;
-    if w.within {
-        let passes = whole::make_whole(ports, links, &labels, &mut weights);
-        return Ratios {
-            agreement: agreement_of(passes),
-            labels,
-            weights,
-        };
-    }
-    Ratios {
-        agreement: Agreement::OverLimit,
-        labels,
-        weights,
-    }
-}
-
-// What ratios that agree come to, by whether some weight passes 10,000.
-fn agreement_of(passes: bool) -> Agreement
-    ensures { result ≡ agreement_of passes }
-{
-    if passes {
-        return Agreement::OverLimit;
-    }
-    Agreement::Agreeing
+    Ok(weights::weigh(table, labels, &rows, most)?)
 }

@@ -1,120 +1,96 @@
 // Weights scaled, component by component, until every δ times the weight that it leaves is whole.
-ghost use Rattle.std.specs.Prelude.{◌≡◌, cond, true, eqb, get_or, ◌*◌};
-ghost use Rattle.table.specs.Slices.{links_of, table_of};
-ghost use Rattle.table.specs.WellFormed.{WellFormed};
+ghost use Rattle.std.specs.Prelude.{◌≡◌, true, get_or, length, ◌*◌, MatchResult};
+ghost use Rattle.specification.specs.Ratios.{Overweight};
+ghost use Rattle.table.specs.Held.{table_in};
 ghost use Rattle.ways.specs.Labels.{Components};
 ghost use Rattle.ways.specs.Scaling.{lacking};
-ghost use Rattle.weights.specs.Weighed.{HasBaseWeights, IsWeighed};
-ghost use Rattle.weights.specs.Scaled.{AllUnits, Multiplying, Multiplied, Scalable};
+ghost use Rattle.weights.specs.Weighed.{HasBaseWeights, HasWeights};
+ghost use Rattle.weights.specs.Scaled.{AllUnits, Multiplying, MultipliedTo, Passing, Scalable};
 
+use crate::OverLimit;
 use fraction::Fraction;
-use specification::{Events, limits};
-use table::{links, ports};
+use specification::limits;
+use table::Table;
 
-// The weights are document 01's, and are multiplied as far as it takes. Answers whether one of them passes 10,000. Where no δ has a denominator
-// other than 1, nothing is to be done.
+// The weights are document 01's, and are multiplied as far as it takes. Where no δ has a denominator other than 1, nothing is to be done.
 pub fn make_whole(
-    ports: &[u32],
-    links: &[u32],
+    table: &Table,
     labels: &[usize; 64],
     weights: &mut [u64; 64],
-) -> bool
-    requires well_formed { WellFormed (table_of ports.now links.now) }
-    requires components { Components (table_of ports.now links.now) labels.now }
-    requires has_base_weights { HasBaseWeights (table_of ports.now links.now) weights.old }
-    ensures { IsWeighed (table_of ports.now links.now) weights.new result }
+) -> Result<(), OverLimit>
+    requires components { Components (table_in table.now) labels.now }
+    requires has_base_weights { HasBaseWeights (table_in table.now) weights.old }
+    ensures { MatchResult result (λ _. HasWeights (table_in table.now) weights.new) (λ _. Overweight (table_in table.now)) }
 {
-    if all_units(links) {
-        return false;
+    if all_units(table) {
+        return Ok(());
     }
-    scale_all(ports, links, labels, weights)
+    scale_all(table, labels, weights)
 }
 
 // Whether every denominator is 1.
-fn all_units(links: &[u32]) -> bool
-    ensures { result ≡ true → AllUnits (links_of links.now) }
+fn all_units(table: &Table) -> bool
+    ensures { result ≡ true → AllUnits (table_in table.now) }
 {
-    let mut k: usize = 0;
-    while k < links::count(links) {
-        if links::over(links, k) != 1 {
+    for k in 0..table.link_count() {
+        if table.link(k).over != 1 {
             return false;
         }
-        k = k + 1;
     }
     true
 }
 
 // Two conditions for each link: its denominator divides the amount forward times the sender's weight, and the amount back. Each is made to
 // hold in its turn. A weight that passes 10,000 on the way passes it in the end.
-fn scale_all(ports: &[u32], links: &[u32], labels: &[usize; 64], weights: &mut [u64; 64]) -> bool
-    requires well_formed { WellFormed (table_of ports.now links.now) }
-    requires components { Components (table_of ports.now links.now) labels.now }
-    requires has_base_weights { HasBaseWeights (table_of ports.now links.now) weights.old }
-    ensures { IsWeighed (table_of ports.now links.now) weights.new result }
+fn scale_all(table: &Table, labels: &[usize; 64], weights: &mut [u64; 64]) -> Result<(), OverLimit>
+    requires components { Components (table_in table.now) labels.now }
+    requires has_base_weights { HasBaseWeights (table_in table.now) weights.old }
+    ensures { MatchResult result (λ _. HasWeights (table_in table.now) weights.new) (λ _. Overweight (table_in table.now)) }
 {
-    let count = ports::count(ports);
-    let conditions = 2 * links::count(links);
-    let mut i: usize = 0;
-    while i < conditions {
-        let l = links::at(links, i / 2);
+    let labels = &labels[..table.port_count()];
+    for k in 0..table.link_count() {
+        let l = table.link(k);
         let from = l.from;
-        let over = l.over as u64;
-        let amount = amount_of(l.events, i % 2);
-        if scale(weights, labels, count, from, amount, over) {
-            return true;
-        }
-        i = i + 1;
+        let over = u64::from(l.over);
+        scale(weights, labels, from, l.events.0, over)?;
+        scale(weights, labels, from, l.events.1, over)?;
     }
-    false
-}
-
-// The amount forward for side 0, else the amount back.
-fn amount_of(events: Events, side: usize) -> u64
-    ensures { result ≡ cond (eqb side 0) events.0 events.1 }
-{
-    if side == 0 { events.0 } else { events.1 }
+    Ok(())
 }
 
 // The weights of the component of port `from` times the least factor for which `over` divides `amount` times the weight of that port.
-// Answers whether one of them passes 10,000.
 fn scale(
     weights: &mut [u64; 64],
-    labels: &[usize; 64],
-    count: usize,
+    labels: &[usize],
     from: usize,
     amount: u64,
     over: u64,
-) -> bool
-    requires { Scalable weights.old labels.now count from amount over }
-    ensures { Multiplied labels.now count (get_or labels.now from 0) (lacking over (amount * get_or weights.old from 0)) weights.old weights.new result }
+) -> Result<(), OverLimit>
+    requires { Scalable weights.old labels.now from amount over }
+    ensures { MatchResult result
+        (λ _. MultipliedTo labels.now (length labels.now) (get_or labels.now from 0) (lacking over (amount * get_or weights.old from 0)) weights.old weights.new)
+        (λ _. Passing labels.now (length labels.now) (get_or labels.now from 0) (lacking over (amount * get_or weights.old from 0)) weights.old) }
 {
     let f = Fraction::reduced(amount * weights[from], over).den;
-    let c = labels[from];
-    multiply(weights, labels, count, c, f)
+    multiply(weights, labels, labels[from], f)
 }
 
-// The weights labelled c times f. Answers whether one of them passes 10,000.
-fn multiply(weights: &mut [u64; 64], labels: &[usize; 64], count: usize, c: usize, f: u64) -> bool
-    requires { Multiplying weights.old labels.now count f }
-    ensures { Multiplied labels.now count c f weights.old weights.new result }
+// The weights labelled c times f.
+fn multiply(weights: &mut [u64; 64], labels: &[usize], c: usize, f: u64) -> Result<(), OverLimit>
+    requires { Multiplying weights.old labels.now f }
+    ensures { MatchResult result (λ _. MultipliedTo labels.now (length labels.now) c f weights.old weights.new) (λ _. Passing labels.now (length labels.now) c f weights.old) }
 {
     if f == 1 {
-        return false;
+        return Ok(());
     }
-    let mut p: usize = 0;
-    while p < count {
-        let w = weights[p] * factor_of(labels[p], c, f);
-        if limits::WEIGHT < w {
-            return true;
+    for (p, &label) in labels.iter().enumerate() {
+        if label == c {
+            let w = weights[p] * f;
+            if limits::WEIGHT < w {
+                return Err(OverLimit);
+            }
+            weights[p] = w;
         }
-        weights[p] = w;
-        p = p + 1;
     }
-    false
-}
-
-fn factor_of(label: usize, c: usize, f: u64) -> u64
-    ensures { result ≡ cond (eqb label c) f 1 }
-{
-    if label == c { f } else { 1 }
+    Ok(())
 }

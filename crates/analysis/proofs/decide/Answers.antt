@@ -1,39 +1,18 @@
 -- 13, 14, or what the periods come to.
-use native.Mathlib.Omega.{arith}
-use lib.ListN.{length-take}
 use mathlib.Core.Path.{ap, ◌∙◌}
-use Rattle.weights.specs.Ratios.{number_of}
-use Rattle.analysis.proofs.Outcomes.{labelled, disagrees, passes, decided_loop, decided_over}
-use borrow.Author.Rules.{rules}
+use Rattle.std.proofs.Common.{rules}
+use Rattle.refusals.specs.Numbers.{number_of}
+use Rattle.weights.specs.Ratios.{refusal_of}
+use Rattle.analysis.proofs.Outcomes.{decided_loop, decided_over}
 use Rattle.analysis.proofs.decide.Goals as goal
+use Rattle.analysis.proofs.decide.Goals.{in-Loop, in-OverLimit}
 
-pub time-requires : goal.time-requires
-time-requires c =
-    labelled c.ratios_of-r.ensures c.requires c.in-Agreeing.is
-
-pub overflow_mul-loop_numbers : goal.overflow_mul-loop_numbers
-overflow_mul-loop_numbers c =
-    omega (arith, (disagrees c.ratios_of-r.ensures c.in-Disagreeing.is).few)
-
-pub slice_bounds-loop_numbers-end : goal.slice_bounds-loop_numbers-end
-slice_bounds-loop_numbers-end c =
-    omega (arith, (disagrees c.ratios_of-r.ensures c.in-Disagreeing.is).few)
-
-pub slice_bounds-show_loop-end : goal.slice_bounds-show_loop-end
-slice_bounds-show_loop-end c =
-    simp length-take (omega (arith, (disagrees c.ratios_of-r.ensures c.in-Disagreeing.is).few))
-
-pub show_loop-written-requires : goal.show_loop-written-requires
-show_loop-written-requires c =
-    simp length-take (omega (arith, (disagrees c.ratios_of-r.ensures c.in-Disagreeing.is).few))
-
-pub returns-in-Disagreeing : goal.returns-in-Disagreeing
-returns-in-Disagreeing c =
-    let is = c.in-Disagreeing.is in
-    let loop = disagrees c.ratios_of-r.ensures is in
-    rw (c.number_of-number.ensures ∙ ap number_of is) (decided_loop loop (search rules) c.show_loop-written.ensures)
-
-pub returns-in-OverLimit : goal.returns-in-OverLimit
-returns-in-OverLimit c =
-    let is = c.in-OverLimit.is in
-    rw (c.number_of-number.ensures ∙ ap number_of is) (decided_over _ (passes c.ratios_of-r.ensures is))
+pub returns-after-discord : goal.returns-after-discord
+returns-after-discord c = elim c.match-discord.branch [
+  | in-Loop w ↦
+      let n = c.number.ensures ∙ ap number_of (c.from.ensures ∙ ap refusal_of w.discord-is) in
+      rw (n, w.answer-is, w.written-is) (decided_loop (rw w.in-Loop.is at c.in-Err.ensures) (search rules) w.show_loop-written.ensures)
+  | in-OverLimit w ↦
+      let n = c.number.ensures ∙ ap number_of (c.from.ensures ∙ ap refusal_of (w.discord-is ∙ w.in-OverLimit.is)) in
+      rw (n, w.answer-is, w.written-is) (decided_over _ (rw w.in-OverLimit.is at c.in-Err.ensures).0)
+]

@@ -1,18 +1,19 @@
 -- The components' periods and starts, one component after the other, and what they come to.
 use Prim.Native.Nat.{ℕ, ◌+◌, ◌^◌, ◌<◌, max}
-use mathlib.Core.Path.{◌≡◌, sym, ◌∙◌}
+use mathlib.Core.Path.{◌≡◌, ap, sym, ◌∙◌}
 use mathlib.Core.Logic.{◌≢◌, ⊎_elim}
 use mathlib.Core.List.{List}
 use native.Mathlib.Nat.{eq-or-lt_of_le}
 use native.Mathlib.Omega.{arith}
-use lib.ListN.{length, get_or}
+use lib.ListN.{get_or}
 use Rattle.fraction.specs.declared.Fraction.{Fraction}
 use Rattle.numbers.specs.Lists.{◌∈◌}
 use Rattle.specification.specs.Periods.{LeastStarts, HasPeriod, PortIn, graph_in}
 use Rattle.table.specs.WellFormed.{WellFormed}
 use Rattle.specification.specs.Table.{Table, port_count, IsPort, from, to, IsBuffer}
 use Rattle.ways.specs.WayLaws.{component_unique}
-use Rattle.period.specs.declared.search.Search.{Search}
+use Rattle.period.specs.declared.cycle.Cycle.{Cycle}
+use Rattle.period.specs.declared.search.Floor.{Floor}
 use Rattle.demands.specs.ConstraintLaws.{from_in, to_in, names_component}
 use Rattle.specification.specs.Ratios.{IsComponent, SmallWeights}
 use Rattle.specification.specs.Answers.{NoPeriod, NoLeastPeriod, Size, Consistent}
@@ -20,8 +21,9 @@ use Rattle.graph.specs.Arranged.{Labelled, SlicesIn}
 use Rattle.graph.specs.SliceLaws.{port_of_lem, of_port, first_member}
 use Rattle.graph.specs.Searched.{connections_of, floor_of, PeriodIn, BlockIn}
 use Rattle.specification.specs.Analysed.{FieldsFit}
+use Rattle.results.specs.declared.kept.Kept.{Kept}
 use Rattle.results.specs.Kept.{component_at, b_at, start_at, TableNumbers, timing_of}
-use Rattle.analysis.specs.Timed.{Kept, TimedIn, TimedBelow, PeriodsBelow, SomeNoLeast}
+use Rattle.analysis.specs.Timed.{IsKept, TimedIn, TimedBelow, PeriodsBelow, SomeNoLeast}
 
 -- starts that agree on the component's ports are the least together
 least_same : {t : Table} {c a b : ℕ} {S T : ℕ → ℕ} (w : ℕ → ℕ) → WellFormed t → ((p : ℕ) → PortIn t c p → S p ≡ T p)
@@ -44,27 +46,24 @@ module _ {t : Table} {labels weights : List ℕ} (l : Labelled t labels weights)
   pub small_weights : SmallWeights t (λ p. get_or weights p 0)
   small_weights = record { weights = l.weighed.are; small = l.weighed.small }
 
-  pub timed_none : {kept : List ℕ} → length kept ≡ 256 → TimedBelow t weights kept 0
-  timed_none long = record { long = long; each = λ c i h. absurd (omega arith) }
-
-  pub timed_skip : {kept : List ℕ} {c : ℕ} → ¬ IsComponent t c → TimedBelow t weights kept c → TimedBelow t weights kept (c + 1)
+  pub timed_skip : {kept : List Kept} {c : ℕ} → ¬ IsComponent t c → TimedBelow t weights kept c → TimedBelow t weights kept (c + 1)
   timed_skip f h = record { long = h.long; each = each_next h.each (λ i. absurd (f i)) }
 
-  module _ {c : ℕ} {members numbers starts kept kept' : List ℕ} {a_b : Fraction} (s : SlicesIn t labels c members numbers)
-      (k : Kept members a_b starts kept kept') where
+  module _ {c : ℕ} {members numbers starts : List ℕ} {kept kept' : List Kept} {a_b : Fraction} (s : SlicesIn t labels c members numbers)
+      (k : IsKept members a_b starts kept kept') where
     kept_timed : IsComponent t c → PeriodIn t weights c a_b starts → TimedIn t weights kept' c
     kept_timed component h =
         let member : (p : ℕ) → PortIn t c p → p ∈ members = λ p i. of_port l s i.a_port i.component in
-        let start : (p : ℕ) → PortIn t c p → start_at kept' p ≡ get_or starts p 0 = λ p i. k.kept_start p (member p i) in
+        let start : (p : ℕ) → PortIn t c p → start_at kept' p ≡ get_or starts p 0 = λ p i. ap (λ (x : Kept). x.start) (k.own p (member p i)) in
         record {
           a = a_b.num;
           b = a_b.den;
           period = h.period;
           least = least_same (λ p. get_or weights p 0) l.well_formed (λ p i. sym (start p i)) h.least;
           small = h.small;
-          component_is = λ p i. k.kept_component p (member p i) ∙ first_member l s component;
-          a_is = λ p i. k.kept_a p (member p i);
-          b_is = λ p i. k.kept_b p (member p i);
+          component_is = λ p i. ap (λ (x : Kept). x.component) (k.own p (member p i)) ∙ first_member l s component;
+          a_is = λ p i. ap (λ (x : Kept). x.period.num) (k.own p (member p i));
+          b_is = λ p i. ap (λ (x : Kept). x.period.den) (k.own p (member p i));
           small_starts = λ p i. omega (arith, start p i, h.small_starts p i);
         }
 
@@ -75,12 +74,12 @@ module _ {t : Table} {labels weights : List ℕ} (l : Labelled t labels weights)
           a = h.a;
           b = h.b;
           period = h.period;
-          least = least_same (λ p. get_or weights p 0) l.well_formed (λ p i. sym (k.other_start p (other p i))) h.least;
+          least = least_same (λ p. get_or weights p 0) l.well_formed (λ p i. sym (ap (λ (x : Kept). x.start) (k.others p (other p i)))) h.least;
           small = h.small;
-          component_is = λ p i. k.other_component p (other p i) ∙ h.component_is p i;
-          a_is = λ p i. k.other_a p (other p i) ∙ h.a_is p i;
-          b_is = λ p i. k.other_b p (other p i) ∙ h.b_is p i;
-          small_starts = λ p i. omega (arith, k.other_start p (other p i), h.small_starts p i);
+          component_is = λ p i. ap (λ (x : Kept). x.component) (k.others p (other p i)) ∙ h.component_is p i;
+          a_is = λ p i. ap (λ (x : Kept). x.period.num) (k.others p (other p i)) ∙ h.a_is p i;
+          b_is = λ p i. ap (λ (x : Kept). x.period.den) (k.others p (other p i)) ∙ h.b_is p i;
+          small_starts = λ p i. omega (arith, ap (λ (x : Kept). x.start) (k.others p (other p i)), h.small_starts p i);
         }
 
     pub timed_next : IsComponent t c → PeriodIn t weights c a_b starts → TimedBelow t weights kept c → TimedBelow t weights kept' (c + 1)
@@ -90,9 +89,6 @@ module _ {t : Table} {labels weights : List ℕ} (l : Labelled t labels weights)
     }
 
   -- ---- periods, whether least or not
-  pub periods_none : PeriodsBelow t weights 0
-  periods_none = record { each = λ c i h. absurd (omega arith) }
-
   pub periods_skip : {c : ℕ} → ¬ IsComponent t c → PeriodsBelow t weights c → PeriodsBelow t weights (c + 1)
   periods_skip f h = record { each = each_next h.each (λ i. absurd (f i)) }
 
@@ -114,8 +110,8 @@ module _ {t : Table} {labels weights : List ℕ} (l : Labelled t labels weights)
   }
 
   -- a floor and a block of component c, where every one below has a period
-  pub no_period : {c : ℕ} {r : Search} {numbers : List ℕ} → IsComponent t c → PeriodsBelow t weights c → BlockIn t weights c r numbers
-      → NoPeriod t (floor_of numbers r.limit r.floor) (connections_of numbers r.block)
+  pub no_period : {c : ℕ} {floor : Floor} {block : Cycle} {numbers : List ℕ} → IsComponent t c → PeriodsBelow t weights c → BlockIn t weights c floor block numbers
+      → NoPeriod t (floor_of numbers floor) (connections_of numbers block)
   no_period {c} i h k = record {
     w = λ p. get_or weights p 0;
     weights = small_weights;
@@ -138,7 +134,7 @@ module _ {t : Table} {labels weights : List ℕ} (l : Labelled t labels weights)
   }
 
   -- ---- every component has its period
-  module _ {kept : List ℕ} (h : TimedBelow t weights kept (port_count t)) where
+  module _ {kept : List Kept} (h : TimedBelow t weights kept (port_count t)) where
     timed_at : (p : ℕ) → IsPort t p → TimedIn t weights kept (get_or labels p 0)
     timed_at p i =
         let c = names_component l.well_formed i (l.components.each p i) in

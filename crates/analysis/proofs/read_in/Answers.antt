@@ -1,35 +1,21 @@
--- The numbers of reading, then those of the table.
+-- What reading refuses, or what is decided of the table.
 use mathlib.Core.Path.{sym, ◌∙◌}
-use native.Mathlib.Omega.{arith}
-use lib.ListN.{length-take}
 use Rattle.table.specs.FilledLaws.{table_read, formed_read}
 use Rattle.analysis.specs.AnalysedLaws.{analysed_faulty, analysed_decided, written_room}
 use Rattle.analysis.proofs.read_in.Goals as goal
 
-pub returns-then-read-ne0 : goal.returns-then-read-ne0
-returns-then-read-ne0 c =
-    record {
-      analysed = analysed_faulty _ _ _ _ c.read_table-read.ensures.number c.read_table-read.ensures.place c.if-read-ne0.true c.requires.least_room_in_bounds;
-      written_le_least_room = omega arith;
-    }
+pub table-requires-clause-well_formed : goal.table-requires-clause-well_formed
+table-requires-clause-well_formed g c = formed_read _ c.in-Ok.ensures
 
-pub slice_bounds-decide-end-2 : goal.slice_bounds-decide-end-2
-slice_bounds-decide-end-2 c =
-    simp length-take (omega (arith, c.read_table-read.ensures.port_room))
+pub returns-in-Ok-clause-analysed : goal.returns-in-Ok-clause-analysed
+returns-in-Ok-clause-analysed g c =
+    let read = c.in-Ok.ensures in
+    analysed_decided _ (c.table.ensures ∙ table_read read) read.returned.number c.requires.least_room_in_bounds c.decide.ensures
 
-pub slice_bounds-decide-end-4 : goal.slice_bounds-decide-end-4
-slice_bounds-decide-end-4 c =
-    simp length-take (omega (arith, c.read_table-read.ensures.link_room))
+pub returns-in-Ok-clause-written_le_least_room : goal.returns-in-Ok-clause-written_le_least_room
+returns-in-Ok-clause-written_le_least_room g c = written_room c.table.result.well_formed c.requires.least_room_in_bounds c.decide.ensures
 
-pub decide-requires : goal.decide-requires
-decide-requires c =
-    formed_read _ c.read_table-read.ensures c.if-read-ne0.false
-
-pub returns : goal.returns
-returns c =
-    let read = c.read_table-read.ensures in
-    let decided = c.decide.ensures in
-    record {
-      analysed = analysed_decided _ (table_read read) (sym read.number ∙ c.if-read-ne0.false) c.requires.least_room_in_bounds decided;
-      written_le_least_room = written_room (formed_read _ read c.if-read-ne0.false) c.requires.least_room_in_bounds decided;
-    }
+pub returns-in-Err-clause-analysed : goal.returns-in-Err-clause-analysed
+returns-in-Err-clause-analysed g c =
+    let fault = c.in-Err.ensures.returned in
+    rw c.into.ensures (analysed_faulty _ _ _ _ (sym fault.number) (sym fault.place) (λ e. fault.some (fault.number ∙ e)) c.requires.least_room_in_bounds)

@@ -1,6 +1,4 @@
 -- Each turn of the loop writes the record of one link more behind the others.
-use Prim.Native.Nat.{◌-◌}
-use lib.ListN.{length}
 use Rattle.specification.specs.Table.{no_link}
 use Rattle.specification.specs.Encoding.{encode_link}
 use Rattle.table.specs.Slices.{links_of}
@@ -9,6 +7,3 @@ use Rattle.encoding.proofs.write_links.Given as goal
 
 abbrev pub invariant-loop-k : goal.invariant-loop-k
 invariant-loop-k l = WrittenFirst encode_link no_link (links_of l.links) l.initial.out l.out l.at l.k
-
-abbrev pub decreases-loop-k : goal.decreases-loop-k
-decreases-loop-k l = length (links_of l.links) - l.k

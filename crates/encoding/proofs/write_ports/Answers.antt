@@ -2,7 +2,7 @@
 use native.Mathlib.Omega.{arith}
 use lib.ListN.{length-take, length-drop}
 use Rattle.encoding.specs.EncodingLaws.{port_length}
-use Rattle.encoding.specs.SoFar.{written_none, next_room, written_on, written_all}
+use Rattle.encoding.specs.SoFar.{written_none, next_room, written_on}
 use Rattle.encoding.proofs.write_ports.Goals as goal
 
 pub loop-p-init : goal.loop-p-init
@@ -13,11 +13,5 @@ write_port-at-requires c =
     let room = rw port_length at (next_room c.loop-p.invariant (omega arith)) in
     simp (length-take, length-drop) (omega arith)
 
-pub overflow_add-at : goal.overflow_add-at
-overflow_add-at c = let w = written_on c.loop-p.invariant (omega arith) (rw c.at.ensures at c.write_port-at.ensures) in omega (arith, w.inside)
-
 pub loop-p-preserved : goal.loop-p-preserved
-loop-p-preserved c = written_on c.loop-p.invariant (omega arith) (rw c.at.ensures at c.write_port-at.ensures)
-
-pub returns : goal.returns
-returns c = written_all c.loop-p.invariant (omega arith)
+loop-p-preserved c = written_on c.loop-p.invariant (omega arith) (rw c.port.ensures at c.write_port-at.ensures)

@@ -3,7 +3,7 @@ use Prim.Native.Nat.{ℕ, suc, ◌+◌, ◌*◌, ◌-◌, ◌/◌, ◌^◌, ◌�
 use mathlib.Core.Path.{◌≡◌, refl, sym, ap, ◌∙◌}
 use mathlib.Core.List.{List}
 use native.Mathlib.Nat.{eq_of_mul-eq-mul_right, mul-le-mul_left, mul-le-mul_right, pow-le-pow_right, pow-suc, div-lt_self}
-use native.Mathlib.Decide.{dec_le}
+use native.Mathlib.Decide.{ℕ_discrete, dec_le}
 use native.Mathlib.Omega.{arith}
 use lib.ListN.{length, get_or, set, length-set}
 use lib.Seq.{get_or-set_same, get_or-set_other}
@@ -12,7 +12,16 @@ use Rattle.exponents.specs.Primes.{prime_at}
 use Rattle.exponents.specs.Factor.{IsFactor}
 use Rattle.exponents.specs.Row.{row_value, RoomToMultiply, RoomToDivide, Multiplied, Scaled}
 use Rattle.exponents.specs.Powers.{powers_raised}
-use Rattle.exponents.proofs.row.Places.{stored}
+
+-- ---- storing into a row
+-- what holds of the stored value at its place, and of the others, holds at each place
+pub stored : (P : ℕ → ℕ → Type 0) (r : List ℕ) {i v : ℕ} → i < length r → P i v → ((k : ℕ) → k < 168 → P k (get_or r k 0))
+    → (k : ℕ) → k < 168 → P k (get_or (set r i v) k 0)
+stored P r {i} {v} h new old k l = decided (ℕ_discrete k i)
+  where
+    decided : Dec (k ≡ i) → P k (get_or (set r i v) k 0)
+    decided (yes e) = rw (e, get_or-set_same r i v 0 h) new
+    decided (no f) = rw (get_or-set_other r i k v 0 f) (old k l)
 
 -- ---- a row with one exponent raised by one
 raised_value : (row : List ℕ) (i : ℕ) → length row ≡ 168 → i < 168

@@ -1,24 +1,16 @@
 -- Two rows are equal exactly where the numbers that they stand for are.
-use Prim.Native.Nat.{ℕ, ◌*◌, ◌<◌}
+use Prim.Native.Nat.{ℕ, ◌*◌}
 use mathlib.Core.Path.{◌≡◌, sym, ap, ap₂, ◌∙◌}
 use mathlib.Core.Bool.{Bool}
 use mathlib.Core.List.{List}
 use native.Mathlib.Nat.{eq_of_mul-eq-mul_right}
-use native.Mathlib.Omega.{arith}
 use lib.ListN.{length}
-use Rattle.exponents.specs.Row.{row_value, RoomToMultiply, RoomToDivide, Scaled, Same, RowAt}
+use Rattle.exponents.specs.Row.{row_value, Scaled, Same}
 use Rattle.exponents.specs.RowLaws.{row_unique}
-use Rattle.table.specs.WellFormed.{PartFits, LinkFits}
+use Rattle.table.specs.WellFormed.{LinkFits}
 use Rattle.specification.specs.declared.Link.{Link}
 use Rattle.forest.specs.PortRows.{row_of, value_of, PortRows}
 use Rattle.forest.specs.Agreement.{FitsRows}
-
-module _ {rows : List (List ℕ)} (p n : ℕ) (h : PortRows rows) (low : p < 64) (part : PartFits n) where
-  pub room_multiply : RoomToMultiply (row_of rows p) n
-  room_multiply = record { positive = part.least; high = part.most; room = λ i l. omega (arith, (h.near p low).high i l) }
-
-  pub room_divide : RoomToDivide (row_of rows p) n
-  room_divide = record { positive = part.least; high = part.most; room = λ i l. omega (arith, (h.near p low).low i l) }
 
 pub compared : {l : Link} {rows : List (List ℕ)} {row : List ℕ} {r : Bool} → LinkFits 64 l → PortRows rows
     → Scaled (row_of rows l.to) l.num l.den row
@@ -30,9 +22,6 @@ compared {l} {rows} {row} f h x long same = record {
   no = λ e q. same.no e (row_unique row (row_of rows l.from) long (h.near l.from f.from).long
       (eq_of_mul-eq-mul_right l.den f.den.least (row_value row) (value_of rows l.from) (sym x.divided.value ∙ x.multiplied.value ∙ q)));
 }
-
-pub row_at : {rows : List (List ℕ)} (p : ℕ) → PortRows rows → p < 64 → RowAt rows p
-row_at p rows low = record { below = low; long = (rows.near p low).long }
 
 -- the ratio is 1
 pub compared_rows : {l : Link} {rows : List (List ℕ)} {r : Bool} → LinkFits 64 l → PortRows rows → l.num ≡ l.den

@@ -1,44 +1,29 @@
--- Numbers copied one by one: none, one more, and all.
-use Prim.Native.Nat.{ℕ, ◌+◌, ◌≤◌, ◌<◌}
-use mathlib.Core.Path.{◌≡◌, refl, ◌∙◌}
-use mathlib.Core.Logic.{⊎_elim}
-use mathlib.Core.List.{List}
+-- The steps down copied behind the steps up.
+use Prim.Native.Nat.{ℕ, ◌+◌, ◌-◌, ◌≤◌, ◌<◌}
+use mathlib.Core.Path.{◌≡◌, ◌∙◌}
+use mathlib.Core.List.{List, ◌++◌}
 use native.Mathlib.Omega.{arith}
-use lib.ListN.{length, get_or, set, length-set}
-use lib.Seq.{get_or-set_same, get_or-set_other}
-use Rattle.numbers.specs.ListLaws.{lt_or_le}
-use Rattle.forest.specs.StepNumbers.{Copied}
+use lib.ListN.{length, get_or, take, drop, length-take, length-drop, get_or-append}
+use Rattle.std.proofs.lemmas.List.{get_or-append_right, get_or-take, get_or-drop}
 
-pub copied_none : (down xs : List ℕ) (first next : ℕ) → first ≤ 128 → Copied down xs xs first next first next
-copied_none down xs first next h = record {
-  same_length = refl;
-  start = omega arith;
-  within = h;
-  places = omega arith;
-  before = λ p h. refl;
-  copied = λ p q l u m. absurd (omega arith);
-}
+-- ys is xs with the numbers of down from first on at the place next
+pub record Copied (down xs ys : List ℕ) (first next : ℕ) : Type 0 where
+  pub before : (p : ℕ) → p < next → get_or ys p 0 ≡ get_or xs p 0
+  pub copied : (p q : ℕ) → first ≤ p → p < 128 → q + first ≡ p + next → get_or ys q 0 ≡ get_or down p 0
 
-pub copied_more : {down xs ys : List ℕ} {first next end behind : ℕ} → Copied down xs ys first next end behind
-    → end < 128
-    → behind < length ys
-    → Copied down xs (set ys behind (get_or down end 0)) first next (end + 1) (behind + 1)
-copied_more {down} {xs} {ys} {first} {next} {end} {behind} c g h = record {
-  same_length = length-set ys behind (get_or down end 0) ∙ c.same_length;
-  start = omega (arith, c.start);
-  within = omega arith;
-  places = omega (arith, c.places);
-  before = λ p l. get_or-set_other ys behind p (get_or down end 0) 0 (λ e. omega (arith, c.places, c.start)) ∙ c.before p l;
-  copied = λ p q l u m. ⊎_elim
-      (λ (f : p < end). get_or-set_other ys behind q (get_or down end 0) 0 (λ e. omega (arith, c.places)) ∙ c.copied p q l f m)
-      (λ (f : end ≤ p).
-      let i : p ≡ end = omega arith in
-      let e : q ≡ behind = omega (arith, c.places) in
-      rw (i, e) (get_or-set_same ys behind (get_or down end 0) 0 h))
-      (lt_or_le p end);
-}
-
-pub copied_all : {down xs ys : List ℕ} {first next end behind : ℕ} → Copied down xs ys first next end behind
-    → 128 ≤ end
-    → Copied down xs ys first next 128 behind
-copied_all {end = end} c h = let e : end ≡ 128 = omega (arith, c.within) in rw e at c
+pub copied_part : (down xs rest : List ℕ) {part : List ℕ} {first next : ℕ} → part ≡ take (128 - first) (drop first down) → length down ≡ 128 → next ≤ length xs
+    → Copied down xs (take next xs ++ (part ++ rest)) first next
+copied_part down xs rest {part} {first} {next} e long low =
+    let front : length (take next xs) ≡ next = omega (arith, length-take next xs) in
+    let from = take (128 - first) (drop first down) in
+    rw e (record {
+      before = λ p h. get_or-append (take next xs) (from ++ rest) 0 p (omega arith) ∙ get_or-take next xs p 0 h;
+      copied = λ p q l m f.
+          let back : q - next < length from = omega (arith, length-take (128 - first) (drop first down), length-drop first down) in
+          let there : first + (q - next) ≡ p = omega arith in
+          get_or-append_right (take next xs) (from ++ rest) next q 0 front (omega arith)
+          ∙ get_or-append from rest 0 (q - next) back
+          ∙ get_or-take (128 - first) (drop first down) (q - next) 0 (omega arith)
+          ∙ get_or-drop first down (q - next) 0
+          ∙ rw there;
+    })

@@ -1,14 +1,15 @@
 -- The steps up and, copied behind them, the steps down are the loop.
-use Prim.Native.Nat.{ℕ, suc, ◌+◌, ◌*◌, ◌/◌, ◌<◌}
+use Prim.Native.Nat.{ℕ, suc, ◌+◌, ◌*◌, ◌-◌, ◌/◌, ◌<◌}
 use mathlib.Core.Path.{◌≡◌}
 use mathlib.Core.List.{List, ◌∷◌, ◌++◌}
 use native.Mathlib.Omega.{arith}
-use lib.ListN.{length, length-append}
+use lib.ListN.{length, length-append, take, drop}
 use Rattle.specification.specs.Table.{Table}
 use Rattle.specification.specs.Ratios.{Step}
 use Rattle.ways.specs.WayLaws.{join}
 use Rattle.forest.specs.Loop.{Closing, Closed, steps_from}
-use Rattle.forest.specs.StepNumbers.{Stands, CopyRoom, Copied}
+use Rattle.forest.specs.StepNumbers.{Stands}
+use Rattle.forest.proofs.loops.Copying.{Copied, copied_part}
 use Rattle.forest.specs.Climb.{along, Climb, Met}
 use Rattle.forest.proofs.loops.Standing.{stands_moved, stands_append, stands_steps, stands_direction}
 
@@ -35,20 +36,16 @@ module _ {t : Table} {labels reach via : List ℕ} {k : ℕ} {numbers₀ : List 
       }
 
   module _ {numbers down : List ℕ} {next first : ℕ} (met : Met t labels reach via k numbers down next first) where
-    pub met_room : CopyRoom numbers next first
-    met_room =
+    pub met_closed : {part : List ℕ} (rest : List ℕ) → part ≡ take (128 - first) (drop first down)
+        → Closed t labels via k (take next numbers ++ (part ++ rest)) ((next + (128 - first)) / 2)
+    met_closed {part = part} rest e =
         let s = met.climbing in
         let few = loop_few s.climb in
-        record { least = omega (arith, s.first_is); most = omega (arith, s.first_is, s.next_is, s.room) }
-
-    pub met_closed : {numbers' : List ℕ} {r : ℕ} → Copied down numbers numbers' first next 128 r
-        → Closed t labels via k numbers' (r / 2)
-    met_closed {numbers'} {r} copied =
-        let s = met.climbing in
+        let copied : Copied down numbers (take next numbers ++ (part ++ rest)) first next = copied_part down numbers rest e s.long (omega (arith, s.next_is, s.room)) in
         loop_closed s.climb
         (stands_append (omega (arith, s.next_is))
         (stands_moved
         (λ p q l u m. let e : q ≡ p = omega arith in rw e (copied.before p (omega (arith, s.next_is))))
         s.up_stands)
         (stands_moved (λ p q l u m. copied.copied p q l (omega (arith, s.first_is)) m) s.down_stands))
-        (omega (arith, s.first_is, s.next_is, copied.places))
+        (omega (arith, s.first_is, s.next_is))

@@ -1,30 +1,12 @@
 -- Numbers of steps that stand in a list: one step more, and copied.
 use Prim.Native.Nat.{ℕ, zero, suc, ◌+◌, ◌*◌, ◌≤◌, ◌<◌}
-use mathlib.Core.Path.{◌≡◌, refl, ◌∙◌}
-use mathlib.Core.Logic.{◌≢◌}
+use mathlib.Core.Path.{◌≡◌, refl}
 use mathlib.Core.List.{List, [], ◌∷◌, ◌++◌}
 use native.Mathlib.Omega.{arith}
-use lib.ListN.{length, get_or, set, length-set}
-use lib.Seq.{get_or-set_same, get_or-set_other}
+use lib.ListN.{length, get_or}
 use Rattle.specification.specs.Ratios.{Step}
 use Rattle.forest.specs.Loop.{steps_from}
 use Rattle.forest.specs.StepNumbers.{step_of, Put, Stands, none, more}
-
-module _ (xs : List ℕ) (at link against : ℕ) where
-  others : (p : ℕ) → p ≢ at → p ≢ at + 1 → get_or (set (set xs at link) (at + 1) against) p 0 ≡ get_or xs p 0
-  others p f g = get_or-set_other (set xs at link) (at + 1) p against 0 g ∙ get_or-set_other xs at p link 0 f
-
-  -- two stores put a step
-  pub put_set : at + 1 < length xs → Put xs (set (set xs at link) (at + 1) against) at link against
-  put_set h = record {
-    same_length = length-set (set xs at link) (at + 1) against ∙ length-set xs at link;
-    number =
-        get_or-set_other (set xs at link) (at + 1) at against 0 (λ e. omega arith)
-        ∙ get_or-set_same xs at link 0 (omega arith);
-    direction = get_or-set_same (set xs at link) (at + 1) against 0 (omega (arith, length-set xs at link));
-    before = λ p l. others p (λ e. omega arith) (λ e. omega arith);
-    behind = λ p l. others p (λ e. omega arith) (λ e. omega arith);
-  }
 
 -- the same numbers at another place
 pub stands_moved : {xs ys : List ℕ} {i j : ℕ} {steps : List Step}

@@ -12,7 +12,7 @@ use Rattle.numbers.specs.Lists.{none, more}
 use Rattle.specification.specs.Ratios.{stay, walk}
 use Rattle.ways.specs.WayLaws.{linked, joined_component, component_unique}
 use Rattle.forest.specs.Loop.{Closing}
-use Rattle.forest.specs.Climb.{along, Climbable, Climb}
+use Rattle.forest.specs.Climb.{along, Climb}
 
 module _ {t : Table} {labels reach via : List ℕ} {k : ℕ} {numbers : List ℕ} (closing : Closing t labels reach via k numbers) where
   pub sender : IsPort t (from t k)
@@ -46,10 +46,3 @@ module _ {t : Table} {labels reach via : List ℕ} {k : ℕ} {numbers : List ℕ
       (later : get_or reach q 0 < get_or reach p 0) where
     pub not_lowest : get_or labels p 0 ≢ p
     not_lowest e = omega (arith, closing.forest.root_first q q_port, ap (λ (x : ℕ). get_or reach x 0) (sym same ∙ e))
-
-    pub climbable : Climbable t labels reach via p
-    climbable = record {
-      well_formed = closing.well_formed;
-      a_port = p_port;
-      reached = closing.forest.reached p p_port not_lowest;
-    }

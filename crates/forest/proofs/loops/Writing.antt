@@ -1,16 +1,17 @@
 -- The climb with the numbers of its steps: at the start, one turn from either end, and what each turn asks.
 use Prim.Native.Nat.{ℕ, ◌+◌, ◌-◌, ◌≤◌, ◌<◌}
-use mathlib.Core.Path.{◌≡◌, refl, sym, ◌∙◌}
+use mathlib.Core.Path.{◌≡◌, refl, ◌∙◌}
+use mathlib.Core.Bool.{Bool, true, false, not}
 use mathlib.Core.Logic.{◌≢◌}
 use mathlib.Core.List.{List, [], ◌∷◌, ◌++◌}
 use native.Mathlib.Omega.{arith}
 use lib.ListN.{length, get_or, length-append}
 use Rattle.specification.specs.Table.{Table, from, to}
 use Rattle.forest.specs.Loop.{Closing}
-use Rattle.forest.specs.StepNumbers.{step_of, StepRoom, Put, none}
-use Rattle.forest.specs.Climb.{Climbable, Parent, DownRoom, Climbing, Met}
+use Rattle.forest.specs.StepNumbers.{direction, step_of, Put, none}
+use Rattle.forest.specs.Climb.{Parent, Climbing}
 use Rattle.forest.proofs.loops.Standing.{stands_append, stands_one, stands_before, stands_behind}
-use Rattle.forest.proofs.loops.Starting.{climb_none, climbable}
+use Rattle.forest.proofs.loops.Starting.{climb_none}
 use Rattle.forest.proofs.loops.Turns.{climb_up, climb_down}
 
 -- the climb, in numbers as long as they were where the loop starts
@@ -19,9 +20,9 @@ pub record Turn (t : Table) (labels reach via : List ℕ) (k : ℕ) (start numbe
   pub same_length : length numbers ≡ length start
 
 module _ {t : Table} {labels reach via : List ℕ} {k : ℕ} {numbers₀ : List ℕ} (closing : Closing t labels reach via k numbers₀) where
-  pub turn_none : {numbers down : List ℕ} → DownRoom down → Put numbers₀ numbers 0 k 0
+  pub turn_none : {numbers down : List ℕ} → length down ≡ 128 → Put numbers₀ numbers 0 k 0
       → Turn t labels reach via k numbers numbers down 2 128 (to t k) (from t k)
-  turn_none begin put = record {
+  turn_none long put = record {
     climbing = record {
       up = [];
       under = [];
@@ -31,7 +32,7 @@ module _ {t : Table} {labels reach via : List ℕ} {k : ℕ} {numbers₀ : List 
       next_is = omega arith;
       first_is = omega arith;
       room = omega (arith, closing.room, put.same_length);
-      long = begin.long;
+      long = long;
     };
     same_length = refl;
   }
@@ -39,16 +40,6 @@ module _ {t : Table} {labels reach via : List ℕ} {k : ℕ} {numbers₀ : List 
   module _ {start numbers down : List ℕ} {next first a b : ℕ} (turn : Turn t labels reach via k start numbers down next first a b) where
     -- ---- from a
     module _ (later : get_or reach b 0 < get_or reach a 0) where
-      pub up_climbable : Climbable t labels reach via a
-      up_climbable =
-          let c = turn.climbing.climb in
-          climbable closing c.a_port c.b_port c.same_label later
-
-      pub up_fits : StepRoom numbers next
-      up_fits = let s = turn.climbing in record {
-        room = omega (arith, s.next_is, s.climb.few_a, s.room, closing.forest.some b s.climb.b_port);
-      }
-
       pub turn_up : {numbers' : List ℕ} {link d parent : ℕ}
           → Parent t labels reach via a link d parent
           → Put numbers numbers' next link d
@@ -81,18 +72,10 @@ module _ {t : Table} {labels reach via : List ℕ} {k : ℕ} {numbers₀ : List 
           let differ : get_or reach a 0 ≢ get_or reach b 0 = λ e. apart (closing.forest.order a b c.a_port c.b_port e) in
           omega arith
 
-      pub down_climbable : Climbable t labels reach via b
-      down_climbable =
-          let c = turn.climbing.climb in
-          climbable closing c.b_port c.a_port (sym c.same_label) later_down
-
-      pub down_room : 2 ≤ first
+      down_room : 2 ≤ first
       down_room = let s = turn.climbing in omega (arith, s.first_is, s.climb.few_b, later_down)
 
-      pub down_fits : StepRoom down (first - 2)
-      down_fits = let s = turn.climbing in record { room = omega (arith, s.first_is, s.long, down_room) }
-
-      pub turn_down : {down' : List ℕ} {link d parent : ℕ}
+      turn_down : {down' : List ℕ} {link d parent : ℕ}
           → Parent t labels reach via b link d parent
           → Put down down' (first - 2) link (1 - d)
           → Turn t labels reach via k start numbers down' next (first - 2) a parent
@@ -115,6 +98,9 @@ module _ {t : Table} {labels reach via : List ℕ} {k : ℕ} {numbers₀ : List 
             same_length = turn.same_length;
           }
 
-    -- ---- both at one port
-    pub turn_met : a ≡ b → Met t labels reach via k numbers down next first
-    turn_met e = record { port = a; climbing = rw (sym e) at turn.climbing }
+      pub turn_back : {down' : List ℕ} {link parent : ℕ} (against : Bool)
+          → Parent t labels reach via b link (direction against) parent
+          → Put down down' (first - 2) link (direction (not against))
+          → Turn t labels reach via k start numbers down' next (first - 2) a parent
+      turn_back true step put = turn_down step put
+      turn_back false step put = turn_down step put

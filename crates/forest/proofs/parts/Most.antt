@@ -2,11 +2,10 @@
 use Prim.Native.Nat.{ℕ, ◌+◌, ◌≤◌, ◌<◌, max}
 use mathlib.Core.Path.{◌≡◌, refl}
 use mathlib.Core.Logic.{◌≢◌}
-use native.Mathlib.Nat.{le_antisymm}
 use native.Mathlib.Numerals.{add-one}
 use native.Mathlib.Omega.{arith}
 use Rattle.specification.specs.Table.{Table, link_count, num, den}
-use Rattle.forest.specs.Parts.{greatest_of, greatest_part, part_one, part_other}
+use Rattle.forest.specs.Parts.{greatest_of, part_one, part_other}
 
 -- m is the greatest part of the links below k
 pub record MostBelow (t : Table) (k m : ℕ) : Type 0 where
@@ -27,6 +26,3 @@ module _ {t : Table} where
     pub most_on : n ≢ d → {part most : ℕ} → part ≡ max n d → most ≡ max m part → MostBelow t (k + 1) most
     unfolding greatest_of
     most_on e f g = record { within = omega arith; is = rw add-one (omega (arith, s.is, part_other t k (λ h. e (omega arith)))) }
-
-  pub most_all : {k m : ℕ} → MostBelow t k m → link_count t ≤ k → m ≡ greatest_part t
-  most_all {k} s h = rw (← le_antisymm s.within h) s.is

@@ -12,7 +12,8 @@ use Rattle.specification.specs.Table.{Table, IsPort, IsLink, from, to}
 use Rattle.specification.specs.Ratios.{Component}
 use Rattle.forest.specs.Forest.{HasEnds}
 use Rattle.forest.specs.PortRows.{row_of, value_of, Fits, Near, PartsAtMost}
-use Rattle.forest.specs.Spreading.{PartForest, entered, Child, Spreading, Extended}
+use Rattle.forest.specs.declared.spanning.Growing.{Growing}
+use Rattle.forest.specs.Spreading.{entered, Child, Spreading, Extended}
 use Rattle.forest.proofs.spanning.Numbers.{numbered_on, number_new, reached_other, reached_kept}
 
 -- a link fits as before where neither end's row changed
@@ -43,7 +44,7 @@ pub record LinkEnds (t : Table) (k p q times by : ℕ) : Type 0 where
   pub by_most : (m : ℕ) → PartsAtMost t m → times ≢ by → by ≤ m
   pub fits : (rows : List (List ℕ)) → value_of rows q * by ≡ value_of rows p * times → Fits t rows k
 
-module _ {t : Table} {f f' : PartForest} {rows rows' : List (List ℕ)} {k p q times by : ℕ} (s : Spreading t f rows) (l : LinkEnds t k p q times by) (x : Extended f rows p q k times by f' rows') where
+module _ {t : Table} {f f' : Growing} {rows rows' : List (List ℕ)} {k p q times by : ℕ} (s : Spreading t f rows) (l : LinkEnds t k p q times by) (x : Extended f rows p q k times by f' rows') where
   -- a port that was reached keeps its number
   kept : (r : ℕ) → 0 < get_or f.reach r 0 → get_or (set f.reach q (f.count + 1)) r 0 ≡ get_or f.reach r 0
   kept r h = reached_kept f.reach q x.new r (f.count + 1) h

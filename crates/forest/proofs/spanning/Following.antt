@@ -1,25 +1,14 @@
--- One link followed from one end to the other, by what is reached.
+-- The row of a port that is reached over a link.
 use Prim.Native.Nat.{ℕ, ◌*◌}
 use mathlib.Core.Path.{◌≡◌, refl, sym, ap, ◌∙◌}
-use mathlib.Core.Logic.{◌≢◌, inl, inr}
+use mathlib.Core.Logic.{◌≢◌}
 use mathlib.Core.List.{List}
 use native.Mathlib.Omega.{arith}
-use lib.ListN.{length, get_or, set}
-use Rattle.exponents.specs.Row.{row_value, RoomToMultiply, RoomToDivide, Scaled}
+use lib.ListN.{length, set}
+use Rattle.exponents.specs.Row.{row_value, Scaled}
 use Rattle.exponents.specs.RowLaws.{multiplied_above}
 use Rattle.forest.specs.PortRows.{row_of}
-use Rattle.forest.specs.Spreading.{PartForest, entered, Spreadable, RowMade, Followed}
-
-module _ (f : PartForest) (rows : List (List ℕ)) (p q k times by : ℕ) where
-  pub follow_unreached : get_or f.reach p 0 ≡ 0 → Followed f rows p q k times by f rows
-  follow_unreached e = record { case = inr (record { same = refl; rows_same = refl; done = λ h. absurd (omega arith) }) }
-
-  pub follow_reached : get_or f.reach q 0 ≢ 0 → Followed f rows p q k times by f rows
-  follow_reached d = record { case = inr (record { same = refl; rows_same = refl; done = λ h. omega arith }) }
-
-  pub follow_on : {rows' : List (List ℕ)} → RowMade rows p q times by rows' → get_or f.reach p 0 ≢ 0 → get_or f.reach q 0 ≡ 0
-      → Followed f rows p q k times by (entered f q k) rows'
-  follow_on made reached new = record { case = inl (record { reached = omega arith; new = new; made = refl; row_made = made }) }
+use Rattle.forest.specs.Spreading.{Spreadable, RowMade}
 
 module _ {rows : List (List ℕ)} {p q times by : ℕ} (x : Spreadable rows p q times by) where
   -- the ratio is 1
@@ -32,20 +21,6 @@ module _ {rows : List (List ℕ)} {p q times by : ℕ} (x : Spreadable rows p q 
     low = λ i h. omega arith;
     high = λ i h. omega arith;
     above = λ n i a b h l. refl;
-  }
-
-  pub spread_multiply : RoomToMultiply (row_of rows p) times
-  spread_multiply = record {
-    positive = x.times_fits.least;
-    high = x.times_fits.most;
-    room = λ i h. omega (arith, x.near.high i h);
-  }
-
-  pub spread_divide : RoomToDivide (row_of rows p) by
-  spread_divide = record {
-    positive = x.by_fits.least;
-    high = x.by_fits.most;
-    room = λ i h. omega (arith, x.near.low i h);
   }
 
   pub spread_on : {row : List ℕ} → Scaled (row_of rows p) times by row → length row ≡ 168 → times ≢ by

@@ -7,20 +7,23 @@ use native.Mathlib.Nat.{le_refl}
 use native.Mathlib.Omega.{arith}
 use borrow.Author.Count.{below_more}
 use Rattle.table.specs.WellFormed.{WellFormed, PartFits}
-use Rattle.specification.specs.Table.{Table, link_count, IsLink, from, to, num, den}
-use Rattle.forest.specs.Spreading.{PartForest, Spreading, Followable, Unchanged, Followed, Closed, Passed}
+use Rattle.table.specs.Slices.{SameLink}
+use Rattle.specification.specs.declared.Link.{Link}
+use Rattle.specification.specs.Table.{Table, link_count, link, IsLink, from, to, num, den}
+use Rattle.forest.specs.declared.spanning.Growing.{Growing}
+use Rattle.forest.specs.Spreading.{Spreading, Followable, Unchanged, Followed, Closed, Passed}
 use Rattle.forest.proofs.spanning.Numbers.{numbered_few}
 use Rattle.forest.proofs.spanning.Starting.{near_more}
 use Rattle.forest.proofs.spanning.Extending.{LinkEnds, extended_spreading}
 
 -- ---- one link from one end to the other
-module _ {f f' : PartForest} {rows rows' : List (List ℕ)} {p q k times by : ℕ} (x : Followed f rows p q k times by f' rows') where
+module _ {f f' : Growing} {rows rows' : List (List ℕ)} {p q k times by : ℕ} (x : Followed f rows p q k times by f' rows') where
   followed_grown : f.count ≤ f'.count
   followed_grown = ⊎_elim (λ e. rw e.made (omega arith)) (λ u. rw u.same (le_refl f.count)) x.case
 
   -- where no port was added
   followed_same : f'.count ≡ f.count → Unchanged f rows p q f' rows'
-  followed_same h = ⊎_elim (λ e. absurd (omega (arith, ap (λ (g : PartForest). g.count) e.made))) (λ u. u) x.case
+  followed_same h = ⊎_elim (λ e. absurd (omega (arith, ap (λ (g : Growing). g.count) e.made))) (λ u. u) x.case
 
   followed_spreading : {t : Table} → LinkEnds t k p q times by → Spreading t f rows → Spreading t f' rows'
   followed_spreading l s = ⊎_elim (λ e. extended_spreading s l e) (λ u. rw (u.same, u.rows_same) s) x.case
@@ -32,18 +35,10 @@ pub record Named (t : Table) (k u v n d : ℕ) : Type 0 where
   pub above : n ≡ num t k
   pub below : d ≡ den t k
 
+pub ends_named : {t : Table} {k : ℕ} {l : Link} → SameLink l (link t k) → Named t k l.from l.to l.num l.den
+ends_named s = record { sender = s.fields.from; receiver = s.fields.to; above = s.fields.num; below = s.fields.den }
+
 module _ {t : Table} where
-  pub passed_none : {f : PartForest} {rows : List (List ℕ)} → Spreading t f rows → Passed t 0 f f rows
-  passed_none s = record {
-    within = omega arith;
-    spreading = s;
-    grown = omega arith;
-    closed = λ _. record { along = λ k h. absurd (omega arith); against = λ k h. absurd (omega arith) };
-  }
-
-  pub passed_all : {k : ℕ} {f f' : PartForest} {rows : List (List ℕ)} → Passed t k f f' rows → link_count t ≤ k → Passed t (link_count t) f f' rows
-  passed_all {k} p h = let e : k ≡ link_count t = omega arith in rw e at p
-
   module _ (formed : WellFormed t) {k u v n d : ℕ} (below : k < link_count t) (ends : Named t k u v n d) where
     a_link : IsLink t k
     a_link = record { below = below }
@@ -72,7 +67,7 @@ module _ {t : Table} where
       fits = λ rows e. record { fits = sym e };
     })
 
-    module _ {f : PartForest} {rows : List (List ℕ)} (s : Spreading t f rows) where
+    module _ {f : Growing} {rows : List (List ℕ)} (s : Spreading t f rows) where
       followable : {p q times by : ℕ} → LinkEnds t k p q times by → PartFits times → PartFits by → Followable f rows p q times by
       followable {p} l a b = record {
         few = numbered_few s.numbered;
@@ -91,13 +86,13 @@ module _ {t : Table} where
       pub follow_back : Followable f rows v u n d
       follow_back = followable back (rw ends.above (formed.links k below).num) (rw ends.below (formed.links k below).den)
 
-    module _ {f f₁ : PartForest} {rows rows₁ : List (List ℕ)} (x : Followed f rows u v k d n f₁ rows₁) where
+    module _ {f f₁ : Growing} {rows rows₁ : List (List ℕ)} (x : Followed f rows u v k d n f₁ rows₁) where
       pub spreading_forth : Spreading t f rows → Spreading t f₁ rows₁
       spreading_forth s = followed_spreading x forth s
 
-      module _ {f₂ : PartForest} {rows₂ : List (List ℕ)} (y : Followed f₁ rows₁ v u k n d f₂ rows₂) where
+      module _ {f₂ : Growing} {rows₂ : List (List ℕ)} (y : Followed f₁ rows₁ v u k n d f₂ rows₂) where
         -- neither way added a port
-        closed_on : {f₀ : PartForest} → Passed t k f₀ f rows → f₂.count ≡ f₀.count → Closed t (k + 1) f₂
+        closed_on : {f₀ : Growing} → Passed t k f₀ f rows → f₂.count ≡ f₀.count → Closed t (k + 1) f₂
         closed_on {f₀} p e =
             let b = followed_same y (omega (arith, followed_grown x, followed_grown y, p.grown)) in
             let a = followed_same x (omega (arith, followed_grown x, followed_grown y, p.grown)) in
@@ -107,7 +102,7 @@ module _ {t : Table} where
               against = below_more _ k c.against (rw (a.same, ends.sender, ends.receiver) at b.done);
             })
 
-        pub passed_on : {f₀ : PartForest} → Passed t k f₀ f rows → Passed t (k + 1) f₀ f₂ rows₂
+        pub passed_on : {f₀ : Growing} → Passed t k f₀ f rows → Passed t (k + 1) f₀ f₂ rows₂
         passed_on p = record {
           within = omega arith;
           spreading = followed_spreading y back (spreading_forth p.spreading);

@@ -10,7 +10,8 @@ use lib.ListN.{get_or, set, replicate, length-set, length-replicate, get_or-repl
 use lib.Seq.{get_or-set_other}
 use Rattle.numbers.specs.ListLaws.{lt_or_le}
 use Rattle.numbers.specs.Lists.{sum}
-use Rattle.forest.specs.Spreading.{PartForest, forest_of, Unreached, entered, Rootable, Rooted}
+use Rattle.forest.specs.declared.spanning.Growing.{Growing}
+use Rattle.forest.specs.Spreading.{entered, Rooted}
 use Rattle.forest.proofs.spanning.Numbers.{numbered_few, numbered_on, number_new, reached_kept}
 
 zeros : (n q : ℕ) → ◌≡◌ {A = ℕ} (get_or (replicate n 0) q 0) 0
@@ -21,12 +22,12 @@ sum_zeros zero = refl
 sum_zeros (suc n) = omega (arith, sum_zeros n)
 
 -- the ports below p are passed
-pub record Rooting (ports p : ℕ) (labels : List ℕ) (f : PartForest) : Type 0 where
+pub record Rooting (ports p : ℕ) (labels : List ℕ) (f : Growing) : Type 0 where
   pub within : p ≤ ports
   pub rooted : Rooted p labels f
 
-pub rooting_none : {ports : ℕ} {labels reach via : List ℕ} → Unreached reach via → Rooting ports 0 labels (forest_of reach via 0)
-rooting_none u = rw (u.no_reach, u.no_via) (record {
+pub rooting_none : {ports : ℕ} {labels : List ℕ} → Rooting ports 0 labels (record { reach = replicate 64 0; via = replicate 64 0; count = 0 })
+rooting_none = record {
   within = omega arith;
   rooted = record {
     numbered = record {
@@ -40,18 +41,15 @@ rooting_none u = rw (u.no_reach, u.no_via) (record {
     only = λ p h. absurd (omega (arith, zeros 64 p));
     below = λ p h. absurd (omega (arith, zeros 64 p));
   };
-})
+}
 
-module _ {ports p : ℕ} {labels : List ℕ} {f : PartForest} (g : Rooting ports p labels f) where
-  pub rooting_all : ports ≤ p → Rooted ports labels f
-  rooting_all h = let e : p ≡ ports = omega (arith, g.within) in rw e at g.rooted
-
-  module _ (few : Rootable ports) (here : p < ports) where
+module _ {ports p : ℕ} {labels : List ℕ} {f : Growing} (g : Rooting ports p labels f) where
+  module _ (few : ports ≤ 64) (here : p < ports) where
     pub rooting_few : f.count ≤ 64
     rooting_few = numbered_few g.rooted.numbered
 
     pub rooting_below : p < 64
-    rooting_below = omega (arith, few.few)
+    rooting_below = omega arith
 
     -- p is not its own label
     pub rooting_off : get_or labels p 0 ≢ p → Rooting ports (p + 1) labels f

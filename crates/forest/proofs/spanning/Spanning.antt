@@ -11,12 +11,13 @@ use Rattle.ways.specs.WayLaws.{linked, joined_sym, joined_component, component_u
 use Rattle.ways.specs.Labels.{Components}
 use Rattle.forest.specs.Forest.{HasEnds, Reached}
 use Rattle.forest.specs.PortRows.{Spanned}
-use Rattle.forest.specs.Spreading.{PartForest, Child, Spreading, Closed, Passed}
+use Rattle.forest.specs.declared.spanning.Growing.{Growing}
+use Rattle.forest.specs.Spreading.{Child, Spreading, Closed, Passed}
 use Rattle.forest.proofs.spanning.Numbers.{numbered_few}
 use Rattle.forest.proofs.spanning.Starting.{near_more}
 
 -- a pass that reaches a port leaves fewer
-pub passed_less : {t : Table} {n : ℕ} {f f' : PartForest} {rows : List (List ℕ)} → Passed t n f f' rows → f'.count ≢ f.count
+pub passed_less : {t : Table} {n : ℕ} {f f' : Growing} {rows : List (List ℕ)} → Passed t n f f' rows → f'.count ≢ f.count
     → 64 - f'.count < 64 - f.count
 passed_less p d = omega (arith, numbered_few p.spreading.numbered, p.grown)
 
@@ -24,7 +25,7 @@ ends_joined : (t : Table) (k p q : ℕ) → IsLink t k → HasEnds t k p q → J
 ends_joined t k p q i e =
     ⊎_elim (λ x. rw (x.0, x.1) at (joined_sym (linked i))) (λ x. rw (x.0, x.1) at (linked i)) e
 
-module _ {t : Table} {f : PartForest} (closed : Closed t (link_count t) f) where
+module _ {t : Table} {f : Growing} (closed : Closed t (link_count t) f) where
   step_reached : (k : ℕ) (b : Bool) → IsLink t k → 0 < get_or f.reach (cond b (from t k) (to t k)) 0
       → 0 < get_or f.reach (cond b (to t k) (from t k)) 0
   step_reached k true i h = closed.along k i.below h

@@ -10,7 +10,8 @@ use Rattle.specification.specs.Ratios.{Component}
 use Rattle.ways.specs.WayLaws.{component_unique, joined_component, way_port}
 use Rattle.ways.specs.Labels.{Components}
 use Rattle.forest.specs.PortRows.{zero_row, Near}
-use Rattle.forest.specs.Spreading.{PartForest, Rootable, Rooted, Spreading}
+use Rattle.forest.specs.declared.spanning.Growing.{Growing}
+use Rattle.forest.specs.Spreading.{Rooted, Spreading}
 
 pub near_more : {row : List ℕ} {d e : ℕ} → Near row d → d ≤ e → Near row e
 near_more n h = record {
@@ -27,10 +28,7 @@ zero_row_lem = record {
 }
 
 module _ {t : Table} (formed : WellFormed t) where
-  pub start_rootable : Rootable (port_count t)
-  start_rootable = record { few = formed.few_ports }
-
-  module _ {labels : List ℕ} {f : PartForest} (components : Components t labels) (r : Rooted (port_count t) labels f) where
+  module _ {labels : List ℕ} {f : Growing} (components : Components t labels) (r : Rooted (port_count t) labels f) where
     own_label : {p c : ℕ} → IsPort t p → Component t p c → 0 < get_or f.reach c 0
     own_label {c = c} i m =
         let port : IsPort t c = way_port formed m.joined.way i in

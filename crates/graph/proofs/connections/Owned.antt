@@ -1,25 +1,20 @@
--- What one turn of the loop adds to the list of owners.
-use Prim.Native.Nat.{ℕ, ◌+◌, ◌≤◌, ◌<◌}
-use mathlib.Core.Bool.{Bool}
-use mathlib.Core.Path.{◌≡◌, refl}
-use mathlib.Core.List.{List, [], ◌∷◌}
+-- The owners that are written.
+use Prim.Native.Nat.{ℕ, ◌<◌}
+use mathlib.Core.Path.{◌≡◌, sym, ◌∙◌}
+use mathlib.Core.List.{List}
 use native.Mathlib.Omega.{arith}
-use lib.ListN.{get_or, length, set}
-use Rattle.table.specs.WellFormed.{WellFormed}
+use lib.ListN.{get_or, length}
+use lib.Seq.{ext_get_or}
 use Rattle.specification.specs.Table.{Table, port_count, link_count, link, is_buffer, from}
 use Rattle.graph.specs.Owners.{owner_of, owners_of}
-use Rattle.graph.proofs.connections.Filling.{Filling, filling_on}
+use Rattle.graph.specs.OwnersLaws.{owners_length, owners_at}
 
-module _ {t : Table} {k u : ℕ} (f : WellFormed t) (h : k < link_count t) (sender : u ≡ from t k) where
-  pub sender_low : u < 64
-  sender_low = omega (arith, (f.links k h).from, f.few_ports)
+-- the first i owners are those of the links
+abbrev pub OwnersTo : Table → (labels owners : List ℕ) (i : ℕ) → Type 0
+OwnersTo t labels owners i = (k : ℕ) → k < i → get_or owners k 0 ≡ owner_of (port_count t) (get_or labels (from t k) 0) (is_buffer (link t k))
 
-  pub owner_on : (labels : List ℕ) {owners₀ owners : List ℕ} {none owner : ℕ} {b : Bool} → Filling (owners_of t labels) 1 (link_count t) owners₀ owners k k
-      → link_count t ≤ length owners₀
-      → none ≡ port_count t
-      → b ≡ is_buffer (link t k)
-      → owner ≡ owner_of none (get_or labels u 0) b
-      → Filling (owners_of t labels) 1 (link_count t) owners₀ (set owners k owner) (k + 1) (k + 1)
-  unfolding owners_of
-  owner_on labels {owner = owner} g room n buffer e =
-      filling_on g (owner ∷ []) h (rw (e, n, sender, buffer)) (omega arith) (omega arith) refl (omega arith)
+pub owners_all : (t : Table) (labels : List ℕ) {owners : List ℕ} → length owners ≡ link_count t → OwnersTo t labels owners (link_count t)
+    → owners ≡ owners_of t labels (link_count t)
+owners_all t labels {owners} long each =
+    ext_get_or 0 owners (owners_of t labels (link_count t)) (long ∙ sym (owners_length t labels (link_count t)))
+    (λ k h. let l : k < link_count t = omega (arith, long) in each k l ∙ sym (owners_at t labels (link_count t) k l))

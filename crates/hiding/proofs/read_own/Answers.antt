@@ -1,25 +1,22 @@
--- The numbers of reading, then those of the table.
-use native.Mathlib.Omega.{arith}
-use lib.ListN.{length-take}
+-- What reading refuses, or the number of the table.
+use Rattle.std.specs.Prelude.{◌≡◌, Err}
+use Rattle.std.proofs.Common.{rules}
+use Rattle.refusals.specs.Faults.{outcome_of}
 use Rattle.table.specs.FilledLaws.{formed_read}
-use Rattle.hiding.specs.Hides.{own_faulty, own_read}
-use borrow.Author.Rules.{rules}
+use Rattle.hiding.specs.Hides.{own_faulty, own_refused, own_held}
 use Rattle.hiding.proofs.read_own.Goals as goal
 
-pub returns-then-read-ne0 : goal.returns-then-read-ne0
-returns-then-read-ne0 c =
-    own_faulty c.args.s.now c.read_table-read.ensures c.if-read-ne0.true
+pub returns-in_err-counts : goal.returns-in_err-counts
+returns-in_err-counts c =
+    let e : c.from_residual.result ≡ Err (outcome_of c.in_err-counts.field-0.0) = search rules in rw e (own_faulty c.args.s.now c.in_err-counts.ensures)
 
-pub slice_bounds-own_number-end-2 : goal.slice_bounds-own_number-end-2
-slice_bounds-own_number-end-2 c = simp length-take (omega (arith, c.read_table-read.ensures.port_room))
+pub table-requires-clause-well_formed : goal.table-requires-clause-well_formed
+table-requires-clause-well_formed c = formed_read c.args.s.now c.in_ok-counts.ensures
 
-pub slice_bounds-own_number-end-4 : goal.slice_bounds-own_number-end-4
-slice_bounds-own_number-end-4 c = simp length-take (omega (arith, c.read_table-read.ensures.link_room))
-
-pub own_number-requires : goal.own_number-requires
-own_number-requires c =
-    formed_read c.args.s.now c.read_table-read.ensures c.if-read-ne0.false
+pub returns-then-number-ne0 : goal.returns-then-number-ne0
+returns-then-number-ne0 c =
+    own_refused c.args.s.now c.in_ok-counts.ensures c.table.ensures c.own_number-number.ensures c.if-number-ne0.true
 
 pub returns : goal.returns
 returns c =
-    own_read c.args.s.now c.read_table-read.ensures c.if-read-ne0.false (search rules) (search rules) c.own_number.ensures
+    own_held c.args.s.now c.in_ok-counts.ensures c.table.ensures c.own_number-number.ensures c.if-number-ne0.false (search rules) (search rules)

@@ -11,11 +11,11 @@ further count more old new h front =
     let same : count + (more - count) ≡ more = omega arith in
     ap (λ l. l ++ take (more - count) (drop count new)) (sym front) ∙ sym (take-add count (more - count) new) ∙ ap (λ n. take n new) same
 
-pub loop-input-preserved : goal.loop-input-preserved
-loop-input-preserved g c =
+pub loop-reader-preserved : goal.loop-reader-preserved
+loop-reader-preserved g c =
     let read = c.read_once-input.ensures in
     record {
       within = omega (arith, read.onward.within, read.buf_len_unchanged);
-      bytes = subst (Consumes _ _) (further _ _ c.loop-input.buf c.read_once-input.new.buf read.onward.least read.front) (Consumes-trans _ _ _ _ _ c.loop-input.invariant.bytes read.bytes);
-      end = read.end (omega (arith, c.loop-input.invariant.within));
+      bytes = subst (Consumes _ _) (further _ _ c.loop-reader.buf c.read_once-input.new.buf read.onward.least read.front) (Consumes-trans _ _ _ _ _ c.loop-reader.invariant.bytes read.bytes);
+      end = read.end (omega (arith, c.loop-reader.invariant.within));
     }

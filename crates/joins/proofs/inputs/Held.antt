@@ -1,27 +1,28 @@
 -- The slices hold what was read of the inputs so far.
 use Prim.Native.Nat.{ℕ, ◌+◌, ◌-◌, ◌*◌, ◌≤◌}
 use mathlib.Core.Path.{◌≡◌, refl, sym, ap, ◌∙◌}
-use mathlib.Core.Logic.{◌≢◌}
 use mathlib.Core.Bool.{Bool, true, false}
 use mathlib.Core.List.{List, [], map}
-use native.Mathlib.Decide.{ℕ_discrete}
 use native.Mathlib.Nat.{sub-zero, sub_self}
 use native.Mathlib.Omega.{arith}
+use Rattle.std.specs.Prelude.{Result, Ok, Err}
 use lib.ListN.{length, length-append, length-map}
 use lib.Seq.{length-sets}
 use Rattle.specification.specs.Table.{Table, port_count}
 use Rattle.specification.specs.Reading.{Reading, read_on, start}
-use Rattle.specification.specs.Joining.{moved, behind, read_first, read_second, both_tables, read_added, joined_table, Join, join_of}
+use Rattle.specification.specs.Joining.{moved, behind, read_first, read_second, both_tables, read_added, joined_table, Join, refusal, join_of}
 use Rattle.table.specs.ReadingLaws.{read_on_fits, read_on_bytes}
 use Rattle.table.specs.Slices.{port_numbers, link_numbers}
-use Rattle.table.specs.Filled.{Room, Filled, Front}
+use Rattle.table.specs.Filled.{Room, FaultOf, Filled}
 use Rattle.table.specs.FilledLaws.{moved_none, front_none, front_on}
-use Rattle.table.specs.FaultLaws.{no_fault_place}
 use Rattle.joins.specs.JoinCases.{join_first, join_second, join_added, join_whole}
-use Rattle.joins.specs.InputsRead.{InputRead, Held, TablesRead, InputsRead}
+use Rattle.joins.specs.Refusals.{input_of}
+use Rattle.joins.specs.InputsRead.{InputRead, Held, JoinFault, TablesRead, InputsRead}
 use Rattle.specification.specs.declared.Before.{Before}
 use Rattle.table.specs.declared.reading.Counts.{Counts}
-use Rattle.joins.specs.declared.inputs.Inputs.{Inputs}
+use Rattle.joins.specs.declared.inputs.Input.{Input}
+use Rattle.joins.specs.declared.inputs.Input.TheVariants.{First, Second, Added}
+use Rattle.joins.specs.declared.inputs.InputFault.{InputFault}
 
 -- what stands before an input that is read behind so many ports and links
 abbrev pub before : (ports links named : ℕ) → Bool → Before
@@ -38,8 +39,8 @@ module _ {t : Table} {left : ℕ} {ports links : List ℕ} {p m : ℕ} (h : Held
   }
 
   held_on : (s : List ℕ) (rest : ℕ) {ports' links' : List ℕ} {named : ℕ} {may : Bool} {c : Counts} → length s + rest ≤ left
-      → Filled (before p m named may) (read_on s (before p m named may)) ports links ports' links' c
-      → Held (behind t (p - named) (read_on s (before p m named may)).table) rest ports' links' c.port_count c.link_count
+      → Filled (before p m named may) (read_on s (before p m named may)) ports links ports' links' (Ok c)
+      → Held (behind t (p - named) (read_on s (before p m named may)).table) rest ports' links' c.ports c.links
   held_on s rest {named = named} {may} few f =
       let b = before p m named may in
       let u = (read_on s b).table in
@@ -47,25 +48,24 @@ module _ {t : Table} {left : ℕ} {ports links : List ℕ} {p m : ℕ} (h : Held
       let fits = read_on_fits s b in
       let bytes = read_on_bytes s b in
       record {
-        port_count_lem = omega (arith, f.port_count_lem, h.port_count_lem, length-append t.ports u.ports);
-        link_count_lem = omega (arith, f.link_count_lem, h.link_count_lem, length-append t.links up, length-map u.links (moved (p - named)));
-        few_ports = omega (arith, f.port_count_lem, fits.few_ports h.few_ports);
-        few_links = omega (arith, f.link_count_lem, fits.few_links h.few_links);
-        port_room = omega (arith, h.port_room, f.port_count_lem, bytes, ap length f.ports_are, length-sets ports (2 * p) (port_numbers u.ports));
-        link_room = omega (arith, h.link_room, f.link_count_lem, bytes, ap length f.links_are, length-sets links (10 * m) (link_numbers up));
+        port_count_lem = omega (arith, f.returned.port_count_lem, h.port_count_lem, length-append t.ports u.ports);
+        link_count_lem = omega (arith, f.returned.link_count_lem, h.link_count_lem, length-append t.links up, length-map u.links (moved (p - named)));
+        few_ports = omega (arith, f.returned.port_count_lem, fits.few_ports h.few_ports);
+        few_links = omega (arith, f.returned.link_count_lem, fits.few_links h.few_links);
+        port_room = omega (arith, h.port_room, f.returned.port_count_lem, bytes, ap length f.ports_are, length-sets ports (2 * p) (port_numbers u.ports));
+        link_room = omega (arith, h.link_room, f.returned.link_count_lem, bytes, ap length f.links_are, length-sets links (10 * m) (link_numbers up));
         front = front_on f h.front;
       }
 
--- what was read of an input, and what the slices hold then
-pub record Next (t : Table) (given : Reading) (left : ℕ) (ports links : List ℕ) (r : Inputs) : Type 0 where
-  pub number : r.number ≡ given.number
-  pub place : r.place ≡ given.place
-  pub held : Held t left ports links r.port_count r.link_count
+-- an input that was read without a fault, and what the slices hold then
+pub record Next (t : Table) (given : Reading) (left : ℕ) (ports links : List ℕ) (c : Counts) : Type 0 where
+  pub number : given.number ≡ 0
+  pub held : Held t left ports links c.ports c.links
 
-module _ {ports links ports' links' : List ℕ} {r : Inputs} where
+module _ {ports links ports' links' : List ℕ} {c : Counts} where
   pub first_next : (first : List ℕ) (rest : ℕ) → Room (length first + rest) start (length ports) (length links)
-      → InputRead first 1 start ports links ports' links' r
-      → Next (read_first first).table (read_first first) rest ports' links' r
+      → InputRead first First start ports links ports' links' (Ok c)
+      → Next (read_first first).table (read_first first) rest ports' links' c
   first_next first rest room f =
       let none : Held (record { ports = []; links = [] }) (length first + rest) ports links 0 0 = record {
         port_count_lem = refl;
@@ -77,97 +77,96 @@ module _ {ports links ports' links' : List ℕ} {r : Inputs} where
         front = front_none ports links;
       } in
       record {
-        number = f.filled.number;
-        place = f.filled.place;
+        number = f.filled.returned.number;
         held = rw (moved_none (read_first first).table.links) at (held_on none first rest (omega arith) f.filled);
       }
 
   module _ {left p m : ℕ} where
     pub second_next : (first second : List ℕ) (rest : ℕ) → length second + rest ≤ left → Held (read_first first).table left ports links p m
-        → InputRead second 2 (before p m 0 true) ports links ports' links' r
-        → Next (both_tables first second) (read_second first second) rest ports' links' r
+        → InputRead second Second (before p m 0 true) ports links ports' links' (Ok c)
+        → Next (both_tables first second) (read_second first second) rest ports' links' c
     unfolding both_tables
     second_next first second rest few h f = record {
-      number = rw (h.port_count_lem, h.link_count_lem) at f.filled.number;
-      place = rw (h.port_count_lem, h.link_count_lem) at f.filled.place;
+      number = rw (h.port_count_lem, h.link_count_lem) at f.filled.returned.number;
       held = rw (h.port_count_lem, h.link_count_lem, sub-zero (port_count (read_first first).table)) at (held_on h second rest few f.filled);
     }
 
     pub added_next : (first second added : List ℕ) → length added ≤ left → Held (both_tables first second) left ports links p m
-        → InputRead added 3 (before p m p false) ports links ports' links' r
-        → Next (joined_table first second added) (read_added first second added) 0 ports' links' r
+        → InputRead added Added (before p m p false) ports links ports' links' (Ok c)
+        → Next (joined_table first second added) (read_added first second added) 0 ports' links' c
     unfolding joined_table
     added_next first second added few h f = record {
-      number = rw (h.port_count_lem, h.link_count_lem) at f.filled.number;
-      place = rw (h.port_count_lem, h.link_count_lem) at f.filled.place;
+      number = rw (h.port_count_lem, h.link_count_lem) at f.filled.returned.number;
       held = rw (h.port_count_lem, h.link_count_lem, sub_self (port_count (both_tables first second))) at (held_on h added 0 (omega arith) f.filled);
     }
 
--- ---- the first fault, or none
-module _ {first second ports links ports' links' : List ℕ} {r : Inputs} where
-  pub first_faulty : {left : ℕ} → Next (read_first first).table (read_first first) left ports' links' r → r.number ≢ 0 → r.input ≡ 1
-      → TablesRead first second ports links ports' links' r
-  first_faulty n f input = record {
-    refused = λ _ added. join_first first second added (λ z. f (n.number ∙ z)) ∙ rw (n.number, n.place, input) refl;
-    first_read = λ z. absurd (f z);
-    second_read = λ z. absurd (f z);
-    held = λ z. absurd (f z);
-    port_room = omega (arith, n.held.few_ports, n.held.port_room);
-    link_room = omega (arith, n.held.few_links, n.held.link_room);
+-- ---- the first fault
+module _ {first second added : List ℕ} {f : InputFault} where
+  fault_is : {given : Reading} {input : Input} → join_of first second added ≡ refusal given.number given.place (input_of input) → FaultOf given f.fault → f.input ≡ input
+      → JoinFault first second added f
+  fault_is e w named = record {
+    is = e ∙ rw (w.number, w.place, named) refl;
+    some = λ z. w.some (sym (ap (λ (j : Join). j.number) e) ∙ z);
   }
 
--- both tables, the second behind the first
-module _ {first second ports links ports₁ links₁ ports₂ links₂ : List ℕ} {a r : Inputs} (one : InputRead first 1 start ports links ports₁ links₁ a)
-    (two : InputRead second 2 (before a.port_count a.link_count 0 true) ports₁ links₁ ports₂ links₂ r) where
-  both_next : (left : ℕ) → Room (length first + length second + left) start (length ports) (length links)
-      → Next (both_tables first second) (read_second first second) left ports₂ links₂ r
-  both_next left room =
-      let same : length first + length second + left ≡ length first + (length second + left) = omega arith in
-      second_next first second left (omega arith) (first_next first (length second + left) (rw same at room) one).held two
+  module _ {ports links ports' links' : List ℕ} where
+    pub first_faulty : InputRead first First start ports links ports' links' (Err f) → JoinFault first second added f
+    first_faulty r = fault_is (join_first first second added r.filled.returned.some) r.filled.returned r.named
 
-  pub tables_read : Room (length first + length second) start (length ports) (length links) → a.number ≡ 0
-      → TablesRead first second ports links ports₂ links₂ r
-  tables_read room none =
-      let z = sym one.filled.number ∙ none in
-      let same : length first + length second ≡ length first + length second + 0 = omega arith in
-      let n = both_next 0 (rw same at room) in
-      record {
-        refused = λ f added. join_second first second added z (λ y. f (n.number ∙ y)) ∙ rw (n.number, n.place, two.faulty f) refl;
-        first_read = λ _. z;
-        second_read = λ y. sym n.number ∙ y;
-        held = λ _ left more. (both_next left more).held;
-        port_room = omega (arith, n.held.few_ports, n.held.port_room);
-        link_room = omega (arith, n.held.few_links, n.held.link_room);
-      }
+    module _ {left p m : ℕ} where
+      pub second_faulty : (read_first first).number ≡ 0 → Held (read_first first).table left ports links p m
+          → InputRead second Second (before p m 0 true) ports links ports' links' (Err f)
+          → JoinFault first second added f
+      second_faulty z h r =
+          let w : FaultOf (read_second first second) f.fault = rw (h.port_count_lem, h.link_count_lem) at r.filled.returned in
+          fault_is (join_second first second added z w.some) w r.named
 
-module _ {first second added ports links : List ℕ} {r : Inputs} where
-  inputs_read : {j : Join} → join_of first second added ≡ j → r.number ≡ j.number → r.place ≡ j.place → r.input ≡ j.input
-      → 2 * r.port_count ≤ length ports
-      → 10 * r.link_count ≤ length links
-      → (r.number ≡ 0 → Front (joined_table first second added) ports links r.port_count r.link_count)
-      → InputsRead first second added ports links r
-  inputs_read e number place input port_room link_room joined =
-      record { number = rw e number; place = rw e place; input = rw e input; port_room = port_room; link_room = link_room; joined = joined }
+      pub added_faulty : (read_first first).number ≡ 0 → (read_second first second).number ≡ 0 → Held (both_tables first second) left ports links p m
+          → InputRead added Added (before p m p false) ports links ports' links' (Err f)
+          → JoinFault first second added f
+      added_faulty z y h r =
+          let w : FaultOf (read_added first second added) f.fault = rw (h.port_count_lem, h.link_count_lem) at r.filled.returned in
+          fault_is (join_added first second added z y w.some) w r.named
 
-  pub tables_faulty : {ports₀ links₀ : List ℕ} → TablesRead first second ports₀ links₀ ports links r → r.number ≢ 0 → InputsRead first second added ports links r
-  tables_faulty t f = inputs_read (t.refused f added) refl refl refl t.port_room t.link_room (λ z. absurd (f z))
+-- ---- the tables, the second behind the first
+pub tables_read : (first second : List ℕ) {ports links ports₁ links₁ ports₂ links₂ : List ℕ} {one : Counts} (r : Result Counts InputFault)
+    → Room (length first + length second) start (length ports) (length links)
+    → InputRead first First start ports links ports₁ links₁ (Ok one)
+    → InputRead second Second (before one.ports one.links 0 true) ports₁ links₁ ports₂ links₂ r
+    → TablesRead first second ports links ports₂ links₂ r
+tables_read first second (Err f) room a b =
+    let n = first_next first (length second) room a in
+    λ added. second_faulty n.number n.held b
+tables_read first second {ports} {links} {ports₂ = ports₂} {links₂ = links₂} (Ok c) room a b =
+    let both : (left : ℕ) → Room (length first + length second + left) start (length ports) (length links)
+    → Next (both_tables first second) (read_second first second) left ports₂ links₂ c =
+    λ left more.
+    let same : length first + length second + left ≡ length first + (length second + left) = omega arith in
+    second_next first second left (omega arith) (first_next first (length second + left) (rw same at more) a).held b in
+    let same : length first + length second ≡ length first + length second + 0 = omega arith in
+    let n = both 0 (rw same at room) in
+    record {
+      first_read = a.filled.returned.number;
+      second_read = n.number;
+      held = λ left more. (both left more).held;
+      port_room = omega (arith, n.held.few_ports, n.held.port_room);
+      link_room = omega (arith, n.held.few_links, n.held.link_room);
+    }
 
-  pub all_read : (read_first first).number ≡ 0 → (read_second first second).number ≡ 0
-      → Next (joined_table first second added) (read_added first second added) 0 ports links r
-      → (r.number ≡ 0 → r.input ≡ 0)
-      → (r.number ≢ 0 → r.input ≡ 3)
-      → InputsRead first second added ports links r
-  all_read z y n faultless faulty = decided (ℕ_discrete r.number 0)
-    where
-      port_room : 2 * r.port_count ≤ length ports
-      port_room = omega (arith, n.held.few_ports, n.held.port_room)
-
-      link_room : 10 * r.link_count ≤ length links
-      link_room = omega (arith, n.held.few_links, n.held.link_room)
-
-      decided : Dec (r.number ≡ 0) → InputsRead first second added ports links r
-      decided (yes x) =
-          let read = sym n.number ∙ x in
-          inputs_read (join_whole first second added z y read) x (n.place ∙ no_fault_place added _ read) (faultless x) port_room link_room (λ _. n.held.front)
-      decided (no f) =
-          inputs_read (join_added first second added z y (λ x. f (n.number ∙ x))) n.number n.place (faulty f) port_room link_room (λ x. absurd (f x))
+-- ---- the added records behind them
+pub all_read : (first second added : List ℕ) {left p m : ℕ} {ports links ports' links' : List ℕ} (r : Result Counts InputFault)
+    → (read_first first).number ≡ 0
+    → (read_second first second).number ≡ 0
+    → length added ≤ left
+    → Held (both_tables first second) left ports links p m
+    → InputRead added Added (before p m p false) ports links ports' links' r
+    → InputsRead first second added ports' links' r
+all_read first second added (Err f) z y few h b = added_faulty z y h b
+all_read first second added (Ok c) z y few h b =
+    let n = added_next first second added few h b in
+    record {
+      is = join_whole first second added z y n.number;
+      port_room = omega (arith, n.held.few_ports, n.held.port_room);
+      link_room = omega (arith, n.held.few_links, n.held.link_room);
+      front = n.held.front;
+    }

@@ -1,6 +1,10 @@
--- The next byte is counted where it changed.
-use Rattle.marked.proofs.Counting.{counted_on}
+-- The bytes that pass the filter.
+use Rattle.std.specs.Prelude.{count_by, not, ◌==◌}
+use Rattle.std.proofs.Common.{◌≡◌, sym, ◌∙◌, rules}
+use Rattle.marked.proofs.Counting.{counted}
 use Rattle.marked.proofs.changed.Goals as goal
 
-pub loop-i-preserved : goal.loop-i-preserved
-loop-i-preserved c = counted_on _ c.loop-i.invariant c.loop-i-test.true c.unmarked-count.ensures.value c.unmarked-count.ensures.within
+pub returns : goal.returns
+returns c =
+    let count : c.count.result ≡ count_by (λ byte. not (byte == 165)) c.args.rest.now = search rules in
+    count ∙ sym (counted _)

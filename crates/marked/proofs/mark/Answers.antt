@@ -1,6 +1,6 @@
--- The next byte is marked too.
-use Rattle.marked.proofs.Counting.{counted_marked}
+-- Each byte is the mark.
+use Rattle.marked.proofs.Counting.{none_changed}
 use Rattle.marked.proofs.mark.Goals as goal
 
-pub loop-i-preserved : goal.loop-i-preserved
-loop-i-preserved c = counted_marked _ c.loop-i.invariant c.loop-i-test.true
+pub returns : goal.returns
+returns c = rw (c.fill.ensures.after (λ y e. e)) (none_changed _)

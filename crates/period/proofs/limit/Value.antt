@@ -13,7 +13,7 @@ use Rattle.numbers.specs.Gcd.{coprime_one_right}
 use Rattle.numbers.specs.Lists.{◌∈◌}
 use Rattle.numbers.specs.ListLaws.{lt_or_le}
 use Rattle.period.specs.Component.{most_amount}
-use Rattle.period.specs.Greatest.{Limited}
+use Rattle.period.specs.Limited.{Limited}
 use Rattle.period.specs.LimitOf.{limit_of}
 
 -- a fraction in lowest terms, with small parts

@@ -1,15 +1,14 @@
 -- From a request to try one a/b to what the rounds and the walk back ask, and from what they say to the result.
-use Prim.Native.Nat.{ℕ, ◌+◌, ◌-◌, ◌*◌}
+use Prim.Native.Nat.{ℕ, ◌+◌, ◌-◌, ◌*◌, ◌≤◌}
 use mathlib.Core.Path.{◌≡◌, ap, sym, ◌∙◌}
 use mathlib.Core.List.{List, ◌++◌}
 use native.Mathlib.Omega.{arith}
 use lib.ListN.{length, take, drop, length-append, length-take, length-drop}
 use lib.Seq.{length-take-le, drop_at, take-append-le}
-use Rattle.rounds.specs.Starts.{Fitting, Stopped, Moving, costs_in}
-use Rattle.rounds.specs.Back.{EveryRoundRaises, FoundCycle}
+use Rattle.rounds.specs.Starts.{Fitting, Moving, costs_in}
+use Rattle.rounds.specs.Back.{EveryRoundRaises}
 use Rattle.period.specs.Prices.{Pricing, PricesMade, prices_of}
-use Rattle.period.specs.Try.{Trying, SameLengths}
-use Rattle.rounds.specs.declared.back.Part.{Part}
+use Rattle.period.specs.Try.{Trying}
 
 -- the part of a buffer behind row n
 abbrev behind : (work : List ℕ) (n : ℕ) → List ℕ
@@ -23,7 +22,7 @@ with_behind work n costs = take (64 * n + 64) work ++ (costs ++ drop (length wor
 costs_part : (work : List ℕ) (n m : ℕ) → take (64 * n + 64 + 4 * m - (64 * n + 64)) (drop (64 * n + 64) work) ≡ costs_in work n m
 costs_part work n m = let e : 64 * n + 64 + 4 * m - (64 * n + 64) ≡ 4 * m = omega arith in rw e
 
-module _ {edges : List ℕ} {m a b n : ℕ} {work steps : List ℕ} (y : Trying edges m a b n work steps) where
+module _ {edges : List ℕ} {m a b n : ℕ} {work : List ℕ} (y : Trying edges m a b n work) where
   long : length (behind work n) ≡ length work - (64 * n + 64)
   long = simp (length-take, length-drop) (omega arith)
 
@@ -38,9 +37,6 @@ module _ {edges : List ℕ} {m a b n : ℕ} {work steps : List ℕ} (y : Trying 
     pub tried_length : length (with_behind work n costs) ≡ length work
     tried_length = simp (length-append, length-take, length-drop) (omega (arith, y.work_room, long, p.same_length))
 
-    pub tried_lengths : {work' steps' : List ℕ} → length work' ≡ length (with_behind work n costs) → length steps' ≡ length steps → SameLengths work work' steps steps'
-    tried_lengths same_work same_steps = record { of_work = omega (arith, same_work, tried_length); of_steps = same_steps }
-
     made : costs_in (with_behind work n costs) n m ≡ prices_of edges a b
     made =
         let rest = drop (length work - (64 * n + 64)) (drop (64 * n + 64) work) in
@@ -52,21 +48,14 @@ module _ {edges : List ℕ} {m a b n : ℕ} {work steps : List ℕ} (y : Trying 
     pub tried_fitting : Fitting (costs_in (with_behind work n costs) n m) (with_behind work n costs) n
     tried_fitting = rw made (record { edges = y.priced; some = y.some; few = y.few; room = omega (arith, y.work_room, tried_length) })
 
-    pub tried_stopped : {work' : List ℕ} {r : ℕ} → Stopped (costs_in (with_behind work n costs) n m) work' n r → Stopped (prices_of edges a b) work' n r
-    tried_stopped stopped = rw made at stopped
-
     -- each round changed something, and the costs are as they were
     module _ {work' : List ℕ} {port : ℕ} (moving : Moving (costs_in (with_behind work n costs) n m) work' n port)
         (kept : costs_in work' n m ≡ costs_in (with_behind work n costs) n m) where
       priced : take (64 * n + 64 + 4 * m - (64 * n + 64)) (drop (64 * n + 64) work') ≡ prices_of edges a b
       priced = costs_part work' n m ∙ kept ∙ made
 
-      pub tried_restless : length work' ≡ length (with_behind work n costs)
+      pub tried_restless : {steps : List ℕ} → 64 ≤ length steps → length work' ≡ length (with_behind work n costs)
           → EveryRoundRaises (take (64 * n + 64 + 4 * m - (64 * n + 64)) (drop (64 * n + 64) work')) work' n port steps
-      tried_restless same =
+      tried_restless room same =
           let fitting : Fitting (prices_of edges a b) work' n = record { edges = y.priced; some = y.some; few = y.few; room = omega (arith, y.work_room, same, tried_length) } in
-          rw priced (record { fitting = fitting; moving = rw made at moving; enclosed = y.enclosed; room = y.steps_room })
-
-      pub tried_cycle : {steps' : List ℕ} {part : Part} → FoundCycle (take (64 * n + 64 + 4 * m - (64 * n + 64)) (drop (64 * n + 64) work')) steps' part
-          → FoundCycle (prices_of edges a b) steps' part
-      tried_cycle found = rw priced at found
+          rw priced (record { fitting = fitting; moving = rw made at moving; enclosed = y.enclosed; room = room })

@@ -16,18 +16,24 @@ use Rattle.rounds.specs.Walks.{Among, cycle_bound, PositiveCycle}
 use Rattle.period.specs.Limits.{E⁺, E⁻, D⁺, D⁻, GreaterLimit, falling_limit, limit_scaled, serves_meets}
 use Rattle.period.specs.Component.{graph_of, Component, SmallEdges, SmallTried, most_amount, most_rate, just_above}
 use Rattle.period.specs.JustAbove.{rising_above_zero, no_least_above_zero}
-use Rattle.period.specs.Search.{IsLimit, SmallPeriod, cycle_of, floor_in}
+use Rattle.period.specs.Search.{SmallPeriod, cycle_of, floor_in}
 use Rattle.period.proofs.search.Falls.{left, left_falls}
-use Rattle.period.specs.declared.search.Cycle.{Cycle}
-use Rattle.period.specs.declared.limit.Floor.{Floor}
-use Rattle.period.specs.declared.limit.Floor.TheVariants.{Rate, Lower, Zero}
+use Rattle.period.specs.declared.cycle.Cycle.{Cycle}
+use Rattle.period.specs.declared.search.Floor.{Floor}
+use Rattle.period.specs.declared.search.Floor.TheVariants.{Rate, Lower, Zero}
+
+-- the limit that a floor is: the rate limit of a port, or the lower limit of the cycle
+abbrev IsLimit : Graph → Floor → (a b : ℕ) → Type 0
+IsLimit g (Rate p) a b = RateLimit g p a b
+IsLimit g (Lower c) a b = CycleLimit g (cycle_of c) a b
+IsLimit g Zero a b = ⊥
 
 -- a/b is the floor's limit
-pub record TriedLimit (g : Graph) (floor : Floor) (limit : Cycle) (a b : ℕ) : Type 0 where
+pub record TriedLimit (g : Graph) (floor : Floor) (a b : ℕ) : Type 0 where
   pub above_zero : 0 < a
   pub lowest : Coprime a b
   pub small : SmallPeriod a b
-  pub is_limit : IsLimit g floor limit a b
+  pub is_limit : IsLimit g floor a b
 
 -- the floor is zero, and a/b just above it
 pub record TriedAboveZero (g : Graph) (a b : ℕ) : Type 0 where
@@ -36,28 +42,28 @@ pub record TriedAboveZero (g : Graph) (a b : ℕ) : Type 0 where
   pub den : b ≡ just_above
 
 -- the a/b that is tried at a floor
-abbrev pub TriedAt : Graph → Floor → Cycle → (a b : ℕ) → Type 0
-TriedAt g (Rate p) limit a b = TriedLimit g (Rate p) limit a b
-TriedAt g Lower limit a b = TriedLimit g Lower limit a b
-TriedAt g Zero limit a b = TriedAboveZero g a b
+abbrev pub TriedAt : Graph → Floor → (a b : ℕ) → Type 0
+TriedAt g (Rate p) a b = TriedLimit g (Rate p) a b
+TriedAt g (Lower c) a b = TriedLimit g (Lower c) a b
+TriedAt g Zero a b = TriedAboveZero g a b
 
-pub record Floored (g : Graph) (period : Fraction) (floor : Floor) (limit : Cycle) : Type 0 where
+pub record Floored (g : Graph) (period : Fraction) (floor : Floor) : Type 0 where
   pub over : 0 < period.den
   pub rates : (p : ℕ) → g.IsPort p → g.limit_num p * period.den ≤ g.limit_den p * period.num
-  pub tried : TriedAt g floor limit period.num period.den
+  pub tried : TriedAt g floor period.num period.den
 
 -- what pricing and the measure ask of its parts
 pub record TriedSmall (a b : ℕ) : Type 0 where
   pub small : SmallTried a b
   pub den : b ≤ just_above
 
-tried_small : (g : Graph) (floor : Floor) (limit : Cycle) (a b : ℕ) → TriedAt g floor limit a b → TriedSmall a b
-tried_small g (Rate p) limit a b t = record { small = record { sum = omega (arith, t.small) }; den = omega (arith, t.small) }
-tried_small g Lower limit a b t = record { small = record { sum = omega (arith, t.small) }; den = omega (arith, t.small) }
-tried_small g Zero limit a b t = record { small = record { sum = omega (arith, t) }; den = omega (arith, t) }
+tried_small : (g : Graph) (floor : Floor) (a b : ℕ) → TriedAt g floor a b → TriedSmall a b
+tried_small g (Rate p) a b t = record { small = record { sum = omega (arith, t.small) }; den = omega (arith, t.small) }
+tried_small g (Lower c) a b t = record { small = record { sum = omega (arith, t.small) }; den = omega (arith, t.small) }
+tried_small g Zero a b t = record { small = record { sum = omega (arith, t) }; den = omega (arith, t) }
 
-pub floored_small : {g : Graph} {period : Fraction} {floor : Floor} {limit : Cycle} → Floored g period floor limit → TriedSmall period.num period.den
-floored_small {g} {period} {floor} {limit} f = tried_small g floor limit period.num period.den f.tried
+pub floored_small : {g : Graph} {period : Fraction} {floor : Floor} → Floored g period floor → TriedSmall period.num period.den
+floored_small {g} {period} {floor} f = tried_small g floor period.num period.den f.tried
 
 -- what a greater a/b keeps of a rate limit
 rate_grows : (n d a b a' b' : ℕ) → 0 < b → a * b' < a' * b → n * b ≤ d * a → n * b' ≤ d * a'
@@ -70,7 +76,7 @@ greater_lowest a b e v a' b' over greater same =
     lt_of_mul-lt-mul_right v (omega (arith, mul-lt-mul_of_pos_right greater over, ap (λ (x : ℕ). x * b) same))
 
 module _ {g : Graph} {ports : List ℕ} (among : Among g ports) (few : length ports ≤ 64) (small : SmallEdges g) {period : Fraction} {floor : Floor}
-    {limit : Cycle} (f : Floored g period floor limit) {path : List ℕ}
+    (f : Floored g period floor) {path : List ℕ}
     (c : PositiveCycle g (gain g period.num period.den) (loss g period.num period.den) path) where
   -- a sum over the cycle of a part of its edges
   sum_small : (part : ℕ → ℕ) → ((k : ℕ) → g.IsEdge k → part k ≤ most_amount) → sum part path ≤ most_rate
@@ -103,18 +109,18 @@ module _ {g : Graph} {ports : List ℕ} (among : Among g ports) (few : length po
       den = omega (arith, (lowest_small (E⁺ g path - E⁻ g path) (D⁻ g path - D⁺ g path)).1, sum_small g.D⁻ small.events_back);
     }
 
-    pub floored_next : {period' : Fraction} {limit' : Cycle} → period' ≡ lowest_terms (E⁺ g path - E⁻ g path) (D⁻ g path - D⁺ g path)
-        → cycle_of limit' ≡ path
-        → Floored g period' Lower limit'
+    pub floored_next : {period' : Fraction} {limit : Cycle} → period' ≡ lowest_terms (E⁺ g path - E⁻ g path) (D⁻ g path - D⁺ g path)
+        → path ≡ cycle_of limit
+        → Floored g period' (Lower limit)
     unfolding next
-    floored_next {limit' = limit'} e same = rw e (record {
+    floored_next e same = rw e (record {
       over = is_lowest.over;
       rates = λ p m. rate_grows (g.limit_num p) (g.limit_den p) period.num period.den next.num next.den f.over next_greater (f.rates p m);
       tried = record {
         above_zero = lowest_above_zero raised.above_zero raised.over;
         lowest = is_lowest.lowest;
         small = next_small;
-        is_limit = rw same next_limit;
+        is_limit = rw (sym same) next_limit;
       };
     })
 
@@ -126,23 +132,23 @@ module _ {g : Graph} {ports : List ℕ} (among : Among g ports) (few : length po
         (omega (arith, next_small)) (omega (arith, next_small)) next_greater)
 
   -- D zero or more: the cycle blocks, at a/b and above or, from the floor zero, at every a/b above zero
-  pub floored_blocks : D⁻ g path ≤ D⁺ g path → Blocked g (floor_in limit floor) path
+  pub floored_blocks : D⁻ g path ≤ D⁺ g path → Blocked g (floor_in floor) path
   floored_blocks rises = by floor f.tried
     where
       blocks : Blocks g path period.num period.den
       blocks = record { cycle = c.cycle; rising = rises; positive = c.positive }
 
-      by : (x : Floor) → TriedAt g x limit period.num period.den → Blocked g (floor_in limit x) path
+      by : (x : Floor) → TriedAt g x period.num period.den → Blocked g (floor_in x) path
       by (Rate p) t = record { a = period.num; b = period.den; above_zero = t.above_zero; over = f.over; is_limit = t.is_limit; blocks = blocks }
-      by Lower t = record { a = period.num; b = period.den; above_zero = t.above_zero; over = f.over; is_limit = t.is_limit; blocks = blocks }
+      by (Lower c) t = record { a = period.num; b = period.den; above_zero = t.above_zero; over = f.over; is_limit = t.is_limit; blocks = blocks }
       by Zero t = record {
         is_zero = t.is_zero;
         blocks = rising_above_zero among few small c.cycle (rw (t.num, t.den) at c.positive) rises;
       }
 
 -- starts that meet (2) make a/b the period, where it is a limit
-pub floored_period : {g : Graph} {period : Fraction} {floor shown : Floor} {limit : Cycle} {S : ℕ → ℕ} → Floored g period floor limit
-    → TriedLimit g shown limit period.num period.den
+pub floored_period : {g : Graph} {period : Fraction} {floor shown : Floor} {S : ℕ → ℕ} → Floored g period floor
+    → TriedLimit g shown period.num period.den
     → ((p : ℕ) × RateLimit g p period.num period.den) ⊎ ((path : List ℕ) × CycleLimit g path period.num period.den)
     → LeastStarts g period.num period.den S
     → Period g period.num period.den
@@ -155,8 +161,8 @@ floored_period f t l s = record {
 }
 
 -- and just above zero they leave no least one
-pub floored_no_least : {ports limits edges : List ℕ} {period : Fraction} {floor : Floor} {limit : Cycle} {S : ℕ → ℕ} → Component ports limits edges
-    → Floored (graph_of ports limits edges) period floor limit
+pub floored_no_least : {ports limits edges : List ℕ} {period : Fraction} {floor : Floor} {S : ℕ → ℕ} → Component ports limits edges
+    → Floored (graph_of ports limits edges) period floor
     → TriedAboveZero (graph_of ports limits edges) period.num period.den
     → LeastStarts (graph_of ports limits edges) period.num period.den S
     → NoLeast (graph_of ports limits edges)

@@ -2,21 +2,17 @@
 use mathlib.Core.Path.{◌∙◌}
 use native.Mathlib.Nat.{pos_of_ne-zero}
 use native.Mathlib.Omega.{arith}
-use Rattle.encoding.specs.ReadBack.{writable_formed}
 use Rattle.analysis.specs.AnalysedLaws.{analysed_short}
 use Rattle.previews.proofs.Outcomes.{analysed_empty, analysed_table}
 use Rattle.previews.proofs.analyse_table.Goals as goal
 
 pub returns-then-answer-lt-LEAST_ROOM : goal.returns-then-answer-lt-LEAST_ROOM
-returns-then-answer-lt-LEAST_ROOM c = analysed_short _ _ c.if-answer-lt-LEAST_ROOM.true
+returns-then-answer-lt-LEAST_ROOM c = rw c.into.ensures (analysed_short _ _ c.if-answer-lt-LEAST_ROOM.true)
 
 pub returns-then-count-eq0 : goal.returns-then-count-eq0
 returns-then-count-eq0 c =
-    analysed_empty c.requires _ (omega (arith, c.if-answer-lt-LEAST_ROOM.false)) (omega (arith, c.count.ensures, c.if-count-eq0.true))
-
-pub decide-requires : goal.decide-requires
-decide-requires c =
-    writable_formed c.requires (pos_of_ne-zero (λ e. c.if-count-eq0.false (c.count.ensures ∙ e)))
+    rw c.into-then-count-eq0.ensures
+    (analysed_empty c.requires _ (omega (arith, c.if-answer-lt-LEAST_ROOM.false)) (omega (arith, c.count.ensures, c.if-count-eq0.true)))
 
 pub returns : goal.returns
 returns c =

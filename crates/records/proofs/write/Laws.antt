@@ -1,13 +1,46 @@
 -- What a turn of a writer's loop leaves to store.
 use Prim.Native.Nat.{ℕ, suc, ◌+◌, ◌*◌, ◌-◌, ◌%◌, ◌/◌, ◌≤◌, ◌<◌}
 use mathlib.Core.Path.{◌≡◌, refl, ◌∙◌}
-use mathlib.Core.List.{List, [], ◌∷◌, ◌++◌}
+use mathlib.Core.List.{List, [], ◌++◌}
 use native.Mathlib.Omega.{arith}
 use native.Mathlib.Numerals.{add-one}
 use lib.ListN.{length, set, get_or, drop, drop_of_length-le}
-use lib.Seq.{sets, length-sets, drop-cons}
+use lib.Seq.{sets, sets-eq, length-sets, drop-cons, take-suc-set}
+use borrow.Rule.Slice.PartMut.{put_mid}
+use Rattle.std.proofs.Common.{sym, append_assoc, append-nil, take_all, drop-drop, length-set}
+use lib.ListN.{take}
 use Rattle.specification.specs.Bytes.{bytes, words}
 use Rattle.records.specs.WrittenLaws.{sets_append}
+
+-- the part has the first i bytes of a number, and the others are those of x
+pub record Storing (n v : ℕ) (part : List ℕ) (i x : ℕ) : Type 0 where
+  pub long : length part ≡ n
+  pub is : take i part ++ bytes (n - i) x ≡ bytes n v
+
+pub storing_none : {part : List ℕ} {n : ℕ} (v : ℕ) → length part ≡ n → Storing n v part 0 v
+storing_none {n = n} v e = let z : n - 0 ≡ n = omega arith in record { long = e; is = rw z }
+
+module _ {n v i x : ℕ} {part : List ℕ} (s : Storing n v part i x) where
+  pub storing_on : i < n → Storing n v (set part i (x % 256)) (i + 1) (x / 256)
+  unfolding bytes
+  storing_on h =
+      let e : n - i ≡ suc (n - (i + 1)) = omega arith in
+      let room : i < length part = omega (arith, s.long) in
+      record {
+        long = length-set part i (x % 256) ∙ s.long;
+        is = rw (add-one i, take-suc-set part i (x % 256) room, append_assoc) (rw (e, add-one i) at s.is);
+      }
+
+  pub storing_all : n ≤ i → part ≡ bytes n v
+  unfolding bytes
+  storing_all h = let e : n - i ≡ 0 = omega arith in sym (take_all i part (omega (arith, s.long))) ∙ rw (e, append-nil) at s.is
+
+-- the part stands in its list
+pub stored_part : {part : List ℕ} (l : List ℕ) (at n v : ℕ) → at + n ≤ length l → length part ≡ n → part ≡ bytes n v
+    → put_mid at (at + n - at) l part ≡ sets l at (bytes n v)
+stored_part {part} l at n v room long e =
+    let size : at + n - at ≡ n = omega arith in
+    rw (size, drop-drop, ← e, sets-eq part l at (omega (arith, long)), long, append_assoc)
 
 -- where l is now, to store xs at a place is all that is left of storing xs₀ in l₀ at its place
 pub record Left (l₀ : List ℕ) (at₀ : ℕ) (xs₀ l : List ℕ) (at : ℕ) (xs : List ℕ) : Type 0 where
@@ -32,20 +65,6 @@ module _ {l₀ : List ℕ} {at₀ : ℕ} {xs₀ : List ℕ} where
 
   left_none : {l : List ℕ} {at : ℕ} {xs : List ℕ} → Left l₀ at₀ xs₀ l at xs → xs ≡ [] → l ≡ sets l₀ at₀ xs₀
   left_none f e = rw e at f.rest
-
-  -- of the bytes of a number, of which i are stored
-  module _ (l : List ℕ) (at i n x : ℕ) where
-    pub byte_less : i < n
-        → Left l₀ at₀ xs₀ l (at + i) (bytes (n - i) x)
-        → Left l₀ at₀ xs₀ (set l (at + i) (x % 256)) (at + (i + 1)) (bytes (n - (i + 1)) (x / 256))
-    unfolding bytes
-    byte_less h f =
-        let e : n - i ≡ suc (n - (i + 1)) = omega arith in
-        left_less l (at + i) (x % 256 ∷ []) _ f (rw e) (omega arith)
-
-    pub byte_none : n ≤ i → Left l₀ at₀ xs₀ l (at + i) (bytes (n - i) x) → l ≡ sets l₀ at₀ xs₀
-    unfolding bytes
-    byte_none h f = let e : n - i ≡ 0 = omega arith in left_none f (rw e)
 
   -- of the words of the numbers ns, of which i are stored
   module _ (l : List ℕ) (at i : ℕ) (ns : List ℕ) where

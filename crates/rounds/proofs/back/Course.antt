@@ -1,8 +1,9 @@
 -- The walk back through the rows: what is known of it, and its start.
-use Prim.Native.Nat.{ℕ, suc, ◌+◌, ◌-◌, ◌≤◌, ◌<◌}
+use Prim.Native.Nat.{ℕ, suc, ◌-◌, ◌≤◌, ◌<◌}
 use mathlib.Core.Path.{◌≡◌, refl, ap}
 use mathlib.Core.Logic.{⊎_elim}
 use mathlib.Core.List.{List, [], ◌∷◌}
+use Rattle.std.specs.Prelude.{Option, Some, None}
 use native.Mathlib.Omega.{arith}
 use lib.ListN.{length, get_or, set, take, drop, replicate, length-take, length-drop, get_or-replicate, get_or-eq_default}
 use Rattle.numbers.specs.Lists.{◌∈◌, Distinct, none}
@@ -27,22 +28,23 @@ pub record Traced (cs : List ℕ) (n port : ℕ) (steps₀ steps : List ℕ) (p 
   pub grew : (u : ℕ) → r ≡ suc u → start_of cs u p < start_of cs r p
 
 -- port p is not marked yet
-pub record Arrived (cs : List ℕ) (n port : ℕ) (steps₀ steps met : List ℕ) (p r : ℕ) : Type 0 where
+pub record Arrived (cs : List ℕ) (n port : ℕ) (steps₀ steps : List ℕ) (met : List (Option ℕ)) (p r : ℕ) : Type 0 where
   pub traced : Traced cs n port steps₀ steps p r
   pub marks : Marks (reached (priced cs) traced.path) (suc r) met
 
 -- port p comes for the first time, and is marked
-pub record Course (cs : List ℕ) (n port : ℕ) (steps₀ steps met : List ℕ) (p r : ℕ) : Type 0 where
+pub record Course (cs : List ℕ) (n port : ℕ) (steps₀ steps : List ℕ) (met : List (Option ℕ)) (p r : ℕ) : Type 0 where
   pub traced : Traced cs n port steps₀ steps p r
   pub new : ¬ (p ∈ reached (priced cs) traced.path)
   pub marks : Marks (p ∷ reached (priced cs) traced.path) r met
 
 -- at a port that was not met
-pub course_on : {cs : List ℕ} {n port : ℕ} {steps₀ steps met : List ℕ} {p r : ℕ} → Arrived cs n port steps₀ steps met p r → get_or met p 0 ≤ 0
-    → Course cs n port steps₀ steps (set met p (r + 1)) p r
+pub course_on : {cs : List ℕ} {n port : ℕ} {steps₀ steps : List ℕ} {met : List (Option ℕ)} {p r : ℕ} → Arrived cs n port steps₀ steps met p r
+    → get_or met p None ≡ None
+    → Course cs n port steps₀ steps (set met p (Some r)) p r
 course_on {p = p} a h = record {
   traced = a.traced;
-  new = a.marks.absent p a.traced.low (omega arith);
+  new = a.marks.absent p a.traced.low h;
   marks = marks_more a.marks a.traced.low;
 }
 
@@ -53,8 +55,8 @@ module _ {cs rows : List ℕ} {n port : ℕ} {steps₀ : List ℕ} (s : EveryRou
       (λ (h : 64 ≤ port). absurd (omega (arith, s.moving.grew, get_or-eq_default (starts cs n) 0 {n = port} (omega (arith, starts_length cs n)))))
       (lt_or_le port 64)
 
-  pub course_first : Course cs n port steps₀ steps₀ (set (replicate 64 0) port (n + 1)) port n
-  course_first = course_on (record { traced = traced; marks = marks_none (suc n) }) (omega (arith, get_or-replicate {A = ℕ} 64 port 0 0 port_low))
+  pub course_first : Course cs n port steps₀ steps₀ (set (replicate 64 None) port (Some n)) port n
+  course_first = course_on (record { traced = traced; marks = marks_none (suc n) }) (get_or-replicate {A = Option ℕ} 64 port None None port_low)
     where
       traced : Traced cs n port steps₀ steps₀ port n
       traced = record {

@@ -2,6 +2,7 @@
 use Prim.Native.Nat.{ℕ, suc, ◌-◌, ◌≤◌, ◌<◌}
 use mathlib.Core.Path.{◌≡◌}
 use mathlib.Core.List.{List}
+use Rattle.std.specs.Prelude.{Option, Some, None}
 use native.Mathlib.Omega.{arith}
 use lib.ListN.{length, get_or, take, drop, length-map}
 use lib.Seq.{take-take}
@@ -20,12 +21,11 @@ some_port_lem : {g : Graph} {f h : ℕ → ℕ} {row : ℕ → ℕ → ℕ} {por
 some_port_lem among rest s = absurd (omega arith)
 some_port_lem among (climb k m gr t v) s = let (i, b, e) = position (among.to_in k m) in omega arith
 
-module _ {cs rows : List ℕ} {n port : ℕ} {steps₀ : List ℕ} (s : EveryRoundRaises cs rows n port steps₀) {steps met : List ℕ} {p r : ℕ} where
-  pub course_found : Arrived cs n port steps₀ steps met p r → 0 < get_or met p 0 → FoundCycle cs steps (record { first = r; last = get_or met p 0 - 1 })
-  course_found a h =
+module _ {cs rows : List ℕ} {n port : ℕ} {steps₀ : List ℕ} (s : EveryRoundRaises cs rows n port steps₀) {steps : List ℕ} {met : List (Option ℕ)} {p r : ℕ} where
+  pub course_found : {i : ℕ} → Arrived cs n port steps₀ steps met p r → get_or met p None ≡ Some i → FoundCycle cs steps (record { first = r; last = i })
+  course_found {i} a h =
       let t = a.traced in
-      let i = get_or met p 0 - 1 in
-      let at = a.marks.placed p i t.low (omega arith) in
+      let at = a.marks.placed p i t.low h in
       let e : i - r - 1 ≡ i - suc r = omega arith in
       let top : i ≤ n = omega (arith, at.below, length-map t.path (to_of cs), length_path s t, t.within) in
       let c = trail_cycle (starts_rows cs s.fitting.edges.to_in n) (omega arith) t.trail t.simple (i - r)

@@ -2,6 +2,7 @@
 use Prim.Native.Nat.{ℕ, suc, ◌-◌, ◌<◌}
 use mathlib.Core.Path.{◌≡◌, ap, ◌∙◌}
 use mathlib.Core.List.{List, ◌∷◌}
+use Rattle.std.specs.Prelude.{Option}
 use native.Mathlib.Omega.{arith}
 use lib.ListN.{length, set, take, drop, length-set}
 use lib.Seq.{drop-cons, get_or-set_same, drop-set-lt}
@@ -21,10 +22,7 @@ steps_more steps u n k b l =
     let e : n - u ≡ suc (n - suc u) = omega arith in
     rw (e, drop-cons (set steps u k) u 0 (rw length-set l), get_or-set_same steps u k 0 l, drop-set-lt (suc u) steps u k (omega arith))
 
-pub step_low : {cs rows : List ℕ} {n port : ℕ} {steps₀ : List ℕ} {u p k : ℕ} → EveryRoundRaises cs rows n port steps₀ → TightEdge cs rows u p k → from_of cs k < 64
-step_low {k = k} s d = s.fitting.edges.from_in k d.is_edge
-
-module _ {cs rows : List ℕ} {n port : ℕ} {steps₀ : List ℕ} (s : EveryRoundRaises cs rows n port steps₀) {steps met : List ℕ} {p r : ℕ} (c : Course cs n port steps₀ steps met p r) where
+module _ {cs rows : List ℕ} {n port : ℕ} {steps₀ : List ℕ} (s : EveryRoundRaises cs rows n port steps₀) {steps : List ℕ} {met : List (Option ℕ)} {p r : ℕ} (c : Course cs n port steps₀ steps met p r) where
   module _ {u : ℕ} (e : r ≡ suc u) where
     before : u < n
     before = omega (arith, c.traced.within)

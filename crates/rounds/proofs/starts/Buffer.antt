@@ -2,6 +2,7 @@
 use Prim.Native.Nat.{ℕ, suc, ◌+◌, ◌-◌, ◌*◌, ◌≤◌, ◌<◌}
 use mathlib.Core.Path.{◌≡◌, sym, ap, ◌∙◌}
 use mathlib.Core.List.{List, ◌++◌}
+use Rattle.std.specs.Prelude.{Option}
 use native.Mathlib.Omega.{arith}
 use lib.ListN.{length, take, drop, length-append, length-take, length-drop, take-append-drop}
 use lib.Seq.{take-append-le, drop-append-le, take_at, drop_at, drop-drop, length-take-le}
@@ -63,7 +64,7 @@ module _ {work s : List ℕ} {r n edges : ℕ} (w : Ahead work r n edges) (copie
 
   -- u is a copy of the starts ys of the round
   module _ {u ys : List ℕ} (e : u ≡ ys) where
-    pub advanced : {j : ℕ} → Round (take (64 * n + 64 + 4 * edges - (64 * n + 64)) (drop (64 * n + 64) work)) s ys j
+    pub advanced : {j : Option ℕ} → Round (take (64 * n + 64 + 4 * edges - (64 * n + 64)) (drop (64 * n + 64) work)) s ys j
         → Advanced (costs_in work n edges) r work (take (64 * r + 64) work ++ (u ++ drop (64 * r + 64 + 64 - (64 * r + 64)) (drop (64 * r + 64) work))) j
     advanced {j} x =
         let y : Round (costs_in work n edges) (row work r) ys j = rw (copy_is, costs_part work n edges) at x in

@@ -1,15 +1,18 @@
 -- Rounds that are under way: r of them have been made.
 use Prim.Native.Nat.{ℕ, suc, ◌+◌, ◌-◌, ◌*◌, ◌≤◌, ◌<◌}
-use mathlib.Core.Path.{◌≡◌, refl, sym, ap, ◌∙◌}
+use mathlib.Core.Path.{◌≡◌, refl, ap, ◌∙◌}
 use mathlib.Core.Logic.{◌≢◌}
-use mathlib.Core.List.{List}
+use mathlib.Core.List.{List, ◌++◌}
+use Rattle.std.specs.Prelude.{Option, Some, None}
 use native.Mathlib.Omega.{arith}
 use native.Mathlib.Decide.{ℕ_discrete}
 use native.Mathlib.Numerals.{add-one}
 use borrow.Author.Count.{below_more}
-use lib.ListN.{length, get_or, replicate, length-replicate}
+use lib.ListN.{length, get_or, take, drop, replicate, length-replicate}
+use lib.Seq.{length-take-le}
 use Rattle.rounds.specs.Starts.{starts, start_of, round_of, row, costs_in, Kept, Fitting, Stopped, Moving}
 use Rattle.rounds.specs.StartsLaws.{starts_length, starts_bound}
+use Rattle.rounds.specs.Relax.{Higher, Raised}
 use Rattle.rounds.specs.Advance.{with_row, Ahead, Advanced}
 use Rattle.rounds.proofs.starts.Buffer.{with_row_length, with_row_here, with_row_before, with_row_costs}
 
@@ -30,6 +33,10 @@ fitting_at f e = record { edges = f.edges; some = f.some; few = f.few; room = om
 
 zero_ports : length (replicate {A = ℕ} 64 0) ≡ 64
 zero_ports = length-replicate {A = ℕ} 64 0
+
+-- zeros in place of the first 64 numbers are row 0
+pub cleared : (work : List ℕ) {zeros : List ℕ} → 64 ≤ length work → zeros ≡ replicate (length (take 64 work)) 0 → zeros ++ drop 64 work ≡ with_row work 0 (replicate 64 0)
+cleared work l e = let long : length (take 64 work) ≡ 64 = length-take-le 64 work l in rw (e, long)
 
 module _ {work work' : List ℕ} {n : ℕ} (edges : ℕ) (f : Fitting (costs_in work n edges) work n) (e : work' ≡ with_row work 0 (replicate 64 0)) where
   -- zeros in row 0 leave the costs alone
@@ -70,7 +77,7 @@ module _ {cs : List ℕ} {n edges : ℕ} {work₀ work : List ℕ} {r j : ℕ} (
     room = g.room;
   }
 
-  module _ {work' : List ℕ} {i : ℕ} (y : Advanced (costs_in work n edges) r work work' i) where
+  module _ {work' : List ℕ} {i : Option ℕ} (y : Advanced (costs_in work n edges) r work work' i) where
     x : Advanced cs r work work' i
     x = rw g.costs at y
 
@@ -88,17 +95,15 @@ module _ {cs : List ℕ} {n edges : ℕ} {work₀ work : List ℕ} {r j : ℕ} (
         go q b (yes e) = rw e (with_row_here work (suc r) (round_of cs (row work r)) (omega arith) ports ∙ next)
         go q b (no d) = with_row_before work (suc r) (round_of cs (row work r)) (omega arith) ports q (omega arith) ∙ g.kept.rows_are q (omega arith)
 
-    rose : i ≢ 64 → start_of cs r i < start_of cs (suc r) i
-    rose d = rw (← next, ← here) (x.raised.grew d)
+    raised : Raised (starts cs r) (starts cs (suc r)) i
+    raised = rw (next, here) at x.raised
 
-    level : (k : ℕ) → k < i → start_of cs (suc r) k ≡ start_of cs r k
-    level k b = rw (← next, ← here) (x.raised.lower k b)
-
-    -- the round raised port i
-    pub made_on : costs_in work' n edges ≡ costs_in work n edges → i ≢ 64 → RoundsMade cs n edges work₀ work' (r + 1) i
-    made_on same d =
+    -- the round raised port p
+    pub made_on : {p : ℕ} → costs_in work' n edges ≡ costs_in work n edges → i ≡ Some p → RoundsMade cs n edges work₀ work' (r + 1) p
+    made_on {p} same d =
         let e : length work' ≡ length work = ap length x.made ∙ with_row_length work (suc r) (round_of cs (row work r)) (omega arith) ports in
         let back : r + 1 - 1 ≡ r = omega arith in
+        let rose : Higher (starts cs r) (starts cs (suc r)) p = rw d at raised in
         record {
           fitting = fitting_at g.fitting e;
           room = omega arith;
@@ -106,18 +111,18 @@ module _ {cs : List ℕ} {n edges : ℕ} {work₀ work : List ℕ} {r j : ℕ} (
           long = omega arith;
           within = omega arith;
           kept = rw add-one kept';
-          moved = below_more (λ (q : ℕ). starts cs (suc q) ≢ starts cs q) r g.moved (λ z. omega (arith, rose d, ap (λ (s : List ℕ). get_or s i 0) z));
-          grew = λ _. rw (back, add-one) (rose d);
-          lower = λ _. rw (back, add-one) level;
+          moved = below_more (λ (q : ℕ). starts cs (suc q) ≢ starts cs q) r g.moved (λ z. omega (arith, rose.grew, ap (λ (s : List ℕ). get_or s p 0) z));
+          grew = λ _. rw (back, add-one) rose.grew;
+          lower = λ _. rw (back, add-one) rose.lower;
         }
 
     -- the round changed nothing
-    pub made_stopped : i ≡ 64 → Stopped cs work' n r
+    pub made_stopped : i ≡ None → Stopped cs work' n r
     made_stopped e = record {
       within = l;
       kept = record { rows_are = λ q b. kept'.rows_are q (omega arith) };
       moved = g.moved;
-      still = sym next ∙ x.raised.same e ∙ here;
+      still = rw e at raised;
     }
 
 pub made_all : {cs : List ℕ} {n edges : ℕ} {work₀ work : List ℕ} {r j : ℕ} → RoundsMade cs n edges work₀ work r j → n ≤ r → Moving cs work n j

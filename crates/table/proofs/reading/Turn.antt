@@ -19,15 +19,20 @@ use Rattle.specification.specs.declared.Port.{Port}
 use Rattle.specification.specs.declared.Link.{Link}
 use Rattle.specification.specs.declared.Before.{Before}
 use Rattle.specification.specs.declared.Read.{Read}
-use Rattle.specification.specs.declared.Read.TheVariants.{PortRecord, LinkRecord, Refused, End}
+use Rattle.specification.specs.declared.Read.TheVariants.{PortRecord, LinkRecord}
+use Rattle.std.specs.Prelude.{Option, Some, None, Result, Ok, Err}
+use Rattle.table.specs.Found.{read_of}
+use Rattle.table.specs.declared.record.Record.{Record}
+use Rattle.table.specs.declared.record.Record.TheVariants.{Port as PortFound, Link as LinkFound}
+use Rattle.refusals.specs.declared.Fault.{Fault}
 use Rattle.table.specs.declared.reading.Counts.{Counts}
-use Rattle.table.proofs.reading.Filling.{filled_nothing, filled_port, filled_link}
+use Rattle.table.proofs.reading.Filling.{filled_end, filled_refused, filled_port, filled_link}
 
 module _ (s ports₀ links₀ : List ℕ) (by : ℕ) (b₀ : Before) where
   -- `left` is the bound that is left
   pub record Going (ports links : List ℕ) (b : Before) (at : ℕ) : Type 0 where
     pub left : ℕ
-    pub on : (ports' links' : List ℕ) (c : Counts) → Filled b (read_from (suc left) s at b) ports links ports' links' c
+    pub on : (ports' links' : List ℕ) (c : Result Counts Fault) → Filled b (read_from (suc left) s at b) ports links ports' links' c
         → Filled b₀ (read_on s b₀) ports₀ links₀ ports' links' c
     pub enough : length s ≤ left + at
     pub inside : at ≤ length s
@@ -40,7 +45,7 @@ module _ (s ports₀ links₀ : List ℕ) (by : ℕ) (b₀ : Before) where
   pub record Turn (ports links : List ℕ) (b : Before) (at : ℕ) (r : Read) : Type 0 where
     pub going : Going ports links b at
     pub told : Accepted s at b r
-    pub then : (ports' links' : List ℕ) (c : Counts) → Filled b (after (read_from going.left s) b r) ports links ports' links' c
+    pub then : (ports' links' : List ℕ) (c : Result Counts Fault) → Filled b (after (read_from going.left s) b r) ports links ports' links' c
         → Filled b₀ (read_on s b₀) ports₀ links₀ ports' links' c
 
 pub started : (s ports links : List ℕ) {by : ℕ} {b : Before} → Room (length s) b (length ports) (length links) → by ≡ b.ports - b.named
@@ -62,9 +67,24 @@ some_left : (n size at : ℕ) → size ≤ n + at → at < size → n ≡ suc (n
 some_left n size at h k = omega arith
 
 module _ {s ports₀ links₀ : List ℕ} {by : ℕ} {b₀ : Before} {ports links : List ℕ} {b : Before} {at : ℕ} where
-  pub turn : {r : Read} → Going s ports₀ links₀ by b₀ ports links b at → r ≡ record_at s at b → Turn s ports₀ links₀ by b₀ ports links b at r
+  -- what was read is the next record
+  turn : {r : Read} → Going s ports₀ links₀ by b₀ ports links b at → r ≡ record_at s at b → Turn s ports₀ links₀ by b₀ ports links b at r
   unfolding read_from
   turn g e = rw e (record { going = g; told = accepted s at b; then = g.on })
+
+  pub port_turn : {x : Option (Record × ℕ)} {r : Record} {p : Port} {next : ℕ} → Going s ports₀ links₀ by b₀ ports links b at
+      → read_of (Ok x) ≡ record_at s at b
+      → x ≡ Some (r, next)
+      → r ≡ PortFound p
+      → Turn s ports₀ links₀ by b₀ ports links b at (PortRecord p next)
+  port_turn g read some port = turn g (rw (some, port) at read)
+
+  pub link_turn : {x : Option (Record × ℕ)} {r : Record} {l : Link} {next : ℕ} → Going s ports₀ links₀ by b₀ ports links b at
+      → read_of (Ok x) ≡ record_at s at b
+      → x ≡ Some (r, next)
+      → r ≡ LinkFound l
+      → Turn s ports₀ links₀ by b₀ ports links b at (LinkRecord l next)
+  link_turn g read some link = turn g (rw (some, link) at read)
 
   -- the slices have room for the record, and what is stored is within the limits
   pub port_fits : {p : Port} {next : ℕ} → Turn s ports₀ links₀ by b₀ ports links b at (PortRecord p next)
@@ -90,7 +110,7 @@ module _ {s ports₀ links₀ : List ℕ} {by : ℕ} {b₀ : Before} {ports link
       let long = length-sets ports (2 * b.ports) (port_numbers (p ∷ [])) in
       rw (stored, e) (record {
         left = g.left - 1;
-        on = λ ps ls c f. w.then ps ls c (rw left (filled_port p f));
+        on = λ ps ls c f. w.then ps ls c (rw left (filled_port p c f));
         enough = omega (arith, w.told.onward, left, g.enough);
         inside = w.told.onward.within;
         room = record {
@@ -116,7 +136,7 @@ module _ {s ports₀ links₀ : List ℕ} {by : ℕ} {b₀ : Before} {ports link
       let long = length-sets links (10 * b.links) (link_numbers (moved (b.ports - b.named) l ∷ [])) in
       rw (stored, e, d, g.apart) (record {
         left = g.left - 1;
-        on = λ ps ls c f. w.then ps ls c (rw left (filled_link l f));
+        on = λ ps ls c f. w.then ps ls c (rw left (filled_link l c f));
         enough = omega (arith, w.told.onward, left, g.enough);
         inside = w.told.onward.within;
         room = record {
@@ -131,10 +151,11 @@ module _ {s ports₀ links₀ : List ℕ} {by : ℕ} {b₀ : Before} {ports link
         long_links = long ∙ g.long_links;
       })
 
-  pub refused : {number place : ℕ} → Turn s ports₀ links₀ by b₀ ports links b at (Refused number place)
-      → Filled b₀ (read_on s b₀) ports₀ links₀ ports links (record { number = number; place = place; port_count = b.ports; link_count = b.links })
-  refused {number} {place} w = w.then _ _ _ (filled_nothing number place w.going.room)
+  pub refused : {f : Fault} {x : Result Counts Fault} → Going s ports₀ links₀ by b₀ ports links b at → read_of (Err f) ≡ record_at s at b
+      → x ≡ Err f
+      → Filled b₀ (read_on s b₀) ports₀ links₀ ports links x
+  refused {f} g read e = rw e ((turn g read).then _ _ _ (filled_refused f g.room))
 
-  pub ended : Turn s ports₀ links₀ by b₀ ports links b at End
-      → Filled b₀ (read_on s b₀) ports₀ links₀ ports links (record { number = 0; place = 0; port_count = b.ports; link_count = b.links })
-  ended w = w.then _ _ _ (filled_nothing 0 0 w.going.room)
+  pub ended : {x : Option (Record × ℕ)} → Going s ports₀ links₀ by b₀ ports links b at → read_of (Ok x) ≡ record_at s at b → x ≡ None
+      → Filled b₀ (read_on s b₀) ports₀ links₀ ports links (Ok (record { ports = b.ports; links = b.links }))
+  ended g read none = (turn g (rw none at read)).then _ _ _ (filled_end g.room)

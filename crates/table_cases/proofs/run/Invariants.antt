@@ -1,6 +1,6 @@
--- The place stays within the input, and what is left of it falls.
-use Rattle.std.proofs.Common.{◌-◌, length}
+-- The bytes left to read fall.
+use Rattle.std.proofs.Common.{length}
 use Rattle.table_cases.proofs.run.Given as goal
 
-abbrev pub decreases-loop-at : goal.decreases-loop-at
-decreases-loop-at g l = length l.s - l.at
+abbrev pub decreases-loop-table : goal.decreases-loop-table
+decreases-loop-table g l = length l.s

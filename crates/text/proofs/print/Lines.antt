@@ -1,36 +1,20 @@
--- The records' lines are put one behind another.
-use Prim.Native.Nat.{ℕ, zero, suc, ◌+◌, ◌*◌, ◌-◌, ◌≤◌}
-use mathlib.Core.Path.{◌≡◌, refl}
-use mathlib.Core.Bool.{true, false}
-use mathlib.Core.List.{List, [], ◌++◌, append_assoc, append-nil}
+-- The lines of the records that are left.
+use Prim.Native.Nat.{ℕ, zero, suc, ◌+◌, ◌-◌, ◌≤◌, ◌<◌}
+use mathlib.Core.Path.{◌≡◌, refl, sym, ap, ◌∙◌}
+use mathlib.Core.Bool.{false}
+use mathlib.Core.List.{List, [], ◌++◌}
 use native.Mathlib.Omega.{arith}
-use lib.ListN.{length, length-append}
+use lib.ListN.{length, take, drop, length-drop}
+use lib.Seq.{length-take-le}
+use Rattle.std.proofs.Common.{take-append-drop}
 use Rattle.specification.specs.Bytes.{number_at}
-use Rattle.text.specs.Printed.{is_record, record_line, record_lines}
+use Rattle.text.specs.declared.record.Record.{Record}
+use Rattle.text.specs.declared.writer.Writer.{Writer}
 use Rattle.text.specs.Places.{Lies, is_record_lem}
-use Rattle.text.specs.Sizes.{record_size}
-use Rattle.text.specs.Put.{Put, put_nothing, ◌⨾◌}
-
--- the lines up to a place are put; those from there on make the whole
-pub record LinesPut (s text₀ : List ℕ) (to : ℕ) (text : List ℕ) (end at number : ℕ) : Type 0 where
-  pub done : List ℕ
-  pub put : Put done text₀ text to end
-  pub all : done ++ record_lines s (length s - number) at number ≡ record_lines s (length s) 0 0
-  pub small : length done ≤ 12 * at
-  pub counts : number ≤ at
-  pub within : at ≤ length s
-
-pub lines_none : {s text : List ℕ} {to : ℕ} → LinesPut s text to text to 0 0
-lines_none {s} =
-    let e : length s - 0 ≡ length s = omega arith in
-    record {
-      done = [];
-      put = put_nothing refl;
-      all = rw e;
-      small = omega arith;
-      counts = omega arith;
-      within = omega arith;
-    }
+use Rattle.text.specs.Printed.{is_record, record_lines}
+use Rattle.text.specs.PrintedLaws.{lines_behind}
+use Rattle.text.specs.Record.{line_of, First}
+use Rattle.text.proofs.writer.Part.{WroteUpTo}
 
 -- where no record lies there are no lines
 no_lines : (s : List ℕ) (n at number : ℕ) → is_record s at ≡ false → record_lines s n at number ≡ []
@@ -38,24 +22,29 @@ unfolding record_lines
 no_lines s zero at number e = refl
 no_lines s (suc n) at number e = rw e
 
-module _ {s text₀ : List ℕ} {to : ℕ} {text : List ℕ} {end at number : ℕ} (h : LinesPut s text₀ to text end at number) where
-  pub lines_more : {text' : List ℕ} {end' next : ℕ}
-      → is_record s at ≡ true
-      → next ≡ at + 2 + number_at s at 2
-      → Put (record_line s at number) text text' end end'
-      → LinesPut s text₀ to text' end' next (number + 1)
-  unfolding record_lines
-  lines_more t e p =
-      let l : Lies s at = is_record_lem t in
-      let f : length s - number ≡ suc (length s - (number + 1)) = omega (arith, h.counts, l.starts) in
-      record {
-        done = h.done ++ record_line s at number;
-        put = h.put ⨾ p;
-        all = rw (append_assoc, e) (rw (f, t) at h.all);
-        small = omega (arith, length-append h.done (record_line s at number), h.small, (record_size s at number l).within);
-        counts = omega (arith, h.counts);
-        within = omega (arith, l.ends);
-      }
+module _ {rest : List ℕ} {r : Record} {behind : List ℕ} (f : First rest r behind) where
+  lies : Lies rest 0
+  lies = is_record_lem f.reads.is
 
-  pub lines_all : is_record s at ≡ false → Put (record_lines s (length s) 0 0) text₀ text to end
-  lines_all t = rw (rw (no_lines s (length s - number) at number t, append-nil) at h.all) at h.put
+  pub shorter : length behind < length rest
+  shorter = rw f.rest (omega (arith, length-drop (2 + number_at rest 0 2) rest, lies.starts, lies.ends))
+
+  lines_behind_first : (n number : ℕ) → record_lines rest n (0 + 2 + number_at rest 0 2) number ≡ record_lines behind n 0 number
+  lines_behind_first n number =
+      let k : ℕ = 2 + number_at rest 0 2 in
+      let place : 0 + 2 + number_at rest 0 2 ≡ length (take k rest) + 0 = omega (arith, length-take-le k rest lies.ends) in
+      let moved = rw (take-append-drop k rest) at (lines_behind (take k rest) (drop k rest) n 0 number) in
+      ap (λ (at : ℕ). record_lines rest n at number) place ∙ moved ∙ ap (λ (s : List ℕ). record_lines s n 0 number) (sym f.rest)
+
+  lines_first : (n number : ℕ) → record_lines rest (suc n) 0 number ≡ line_of r number ++ record_lines behind n 0 (number + 1)
+  unfolding record_lines
+  lines_first n number = rw (f.reads.is, f.reads.line number, lines_behind_first n (number + 1))
+
+module _ {text : List ℕ} (rest : List ℕ) {most : ℕ} (number : ℕ) {w₀ w : Writer} (p : WroteUpTo text (record_lines rest (most - number) 0 number) w₀ w) (h : number + length rest ≤ most) where
+  pub next_line : {r : Record} {behind : List ℕ} → First rest r behind → WroteUpTo text (line_of r number ++ record_lines behind (most - (number + 1)) 0 (number + 1)) w₀ w
+  next_line f =
+      let n : most - number ≡ suc (most - (number + 1)) = omega (arith, shorter f) in
+      rw (n, lines_first f (most - (number + 1)) number) at p
+
+  pub no_line : is_record rest 0 ≡ false → WroteUpTo text [] w₀ w
+  no_line e = rw (no_lines rest (most - number) 0 number e) at p

@@ -1,7 +1,7 @@
 -- A pass that is under way: what the next link does.
-use Prim.Native.Nat.{ℕ, ◌+◌, ◌≤◌, ◌<◌}
-use mathlib.Core.Bool.{Bool, true, false, true≢false, false≢true}
-use mathlib.Core.Path.{◌≡◌}
+use Prim.Native.Nat.{ℕ, ◌+◌, ◌<◌}
+use mathlib.Core.Bool.{Bool, true, false, true≢false, ◌||◌}
+use mathlib.Core.Path.{◌≡◌, refl}
 use mathlib.Core.Logic.{⊎_elim}
 use mathlib.Core.List.{List}
 use native.Mathlib.Omega.{arith}
@@ -11,22 +11,10 @@ use Rattle.specification.specs.Table.{Table, link_count, IsLink, from, to}
 use Rattle.numbers.specs.Lists.{sum}
 use Rattle.specification.specs.Ratios.{Joined}
 use Rattle.ways.specs.WayLaws.{joined_sym, linked}
-use Rattle.ways.specs.Passes.{Both, Levelled, Sound, Passed}
+use Rattle.ways.specs.Passes.{Both, Levelled, Passed}
 use Rattle.ways.proofs.components.Lowering.{sum_lowered, sound_lowered}
 
 module _ {t : Table} where
-  pub passed_none : {l : List ℕ} → Sound t l → Passed t 0 l l false
-  passed_none s = record {
-    within = omega arith;
-    sound = s;
-    most = omega arith;
-    less = λ e. absurd (false≢true e);
-    even = λ _. record { ends = λ j h. absurd (omega arith) };
-  }
-
-  pub passed_all : {k : ℕ} {l l' : List ℕ} {r : Bool} → Passed t k l l' r → link_count t ≤ k → Passed t (link_count t) l l' r
-  passed_all {k} p h = let e : k ≡ link_count t = omega arith in rw e at p
-
   module _ (formed : WellFormed t) {k u v : ℕ} (below : k < link_count t) (sender : u ≡ from t k) (receiver : v ≡ to t k) where
     -- the ends of link k, u and v, have labels
     pub passed_both : Both u v
@@ -37,7 +25,7 @@ module _ {t : Table} where
 
     module _ {l l' l'' : List ℕ} {r b : Bool} (p : Passed t k l l' r) (x : Levelled l' u v l'' b) where
       -- link k lowered a label
-      pub passed_on : b ≡ true → Passed t (k + 1) l l'' true
+      passed_on : b ≡ true → Passed t (k + 1) l l'' true
       passed_on e =
           let i : IsLink t k = record { below = below } in
           let turned : Both v u = record { one = passed_both.other; other = passed_both.one } in
@@ -51,7 +39,7 @@ module _ {t : Table} where
           }
 
       -- its ends had the same label
-      pub passed_off : b ≡ false → Passed t (k + 1) l l'' r
+      passed_off : b ≡ false → Passed t (k + 1) l l'' r
       passed_off e = rw (x.same e) (record {
         within = omega arith;
         sound = p.sound;
@@ -59,3 +47,9 @@ module _ {t : Table} where
         less = p.less;
         even = λ d. record { ends = below_more _ k (p.even d).ends (rw (sender, receiver) at (x.equal e)) };
       })
+
+    pub passed_next : {l l' l'' : List ℕ} (r b : Bool) → Passed t k l l' r → Levelled l' u v l'' b → Passed t (k + 1) l l'' (r || b)
+    passed_next true true p x = passed_on p x refl
+    passed_next false true p x = passed_on p x refl
+    passed_next true false p x = passed_off p x refl
+    passed_next false false p x = passed_off p x refl

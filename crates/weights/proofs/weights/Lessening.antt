@@ -8,7 +8,7 @@ use native.Mathlib.Omega.{arith}
 use borrow.Author.Count.{below_more}
 use lib.ListN.{length, get_or, set, length-set}
 use lib.Seq.{get_or-set_same, get_or-set_other}
-use Rattle.exponents.specs.Row.{RowAt, Within, Lesser, TakenLesser}
+use Rattle.exponents.specs.Row.{Within, Lesser, TakenLesser}
 use Rattle.specification.specs.Table.{Table, port_count, IsPort}
 use Rattle.numbers.specs.ListLaws.{lt_or_le}
 use Rattle.ways.specs.WayLaws.{way_port, joined_component, component_unique}
@@ -86,17 +86,8 @@ module _ {t : Table} {labels : List ℕ} {rows : List (List ℕ)} (g : LabelledR
     }
 
 -- the same of what `take_lesser` makes
-pub least_taken : {t : Table} {labels : List ℕ} {rows r r' : List (List ℕ)} {p : ℕ} → LabelledRows t labels rows → p < port_count t
+pub least_taken : {t : Table} {labels : List ℕ} {rows r : List (List ℕ)} {p : ℕ} {x : List ℕ} → LabelledRows t labels rows → p < port_count t
     → LeastRows t labels rows p r
-    → TakenLesser r (get_or labels p 0) (row_of rows p) r'
-    → LeastRows t labels rows (p + 1) r'
-least_taken g port l taken = rw taken.made (least_on g port l taken.long taken.is_lesser)
-
-pub least_row : {t : Table} {labels : List ℕ} {rows r : List (List ℕ)} {p : ℕ} → LabelledRows t labels rows → p < port_count t
-    → LeastRows t labels rows p r
-    → RowAt r (get_or labels p 0)
-least_row g port l = record { below = label_small g port; long = l.each _ (label_small g port) }
-
-pub least_all : {t : Table} {labels : List ℕ} {rows r : List (List ℕ)} {p : ℕ} → LeastRows t labels rows p r → port_count t ≤ p
-    → LeastRows t labels rows (port_count t) r
-least_all l h = record { long = l.long; each = l.each; least = λ q b. l.least q (omega arith); attained = l.attained }
+    → TakenLesser (row_of r (get_or labels p 0)) (row_of rows p) x
+    → LeastRows t labels rows (p + 1) (set r (get_or labels p 0) x)
+least_taken g port l taken = least_on g port l taken.long taken.is_lesser

@@ -1,11 +1,6 @@
--- After i turns the first i ports hold their numbers.
-use Prim.Native.Nat.{◌-◌}
-use lib.ListN.{length}
+-- After so many turns so many ports hold theirs.
 use Rattle.analysis.proofs.periods.Keeping.{Keeping}
 use Rattle.analysis.proofs.periods.keep.Given as goal
 
-abbrev pub invariant-loop-i : goal.invariant-loop-i
-invariant-loop-i l = Keeping l.members l.period l.starts l.initial.kept l.kept l.i
-
-abbrev pub decreases-loop-i : goal.decreases-loop-i
-decreases-loop-i l = length l.members - l.i
+abbrev pub invariant-loop-port : goal.invariant-loop-port
+invariant-loop-port l = Keeping l.members l.period l.starts l.initial.kept l.kept l.port-index

@@ -1,82 +1,59 @@
--- The components below c have periods, those kept are the least, and nothing is written. The measure is how many ports are left.
-use mathlib.Core.Path.{refl}
+-- The components below c have periods, those kept are the least, and nothing is written.
+use mathlib.Core.Path.{sym}
 use native.Mathlib.Omega.{arith}
-use Rattle.analysis.proofs.periods.Turns.{turns_first, members_part, numbers_part, component_slices, part_room, turns_skip, turns_least, turns_no_least, turns_shown, turns_without, all_numbers, turns_all}
+use borrow.Author.Tests.{eqb-true, eqb-false}
+use Rattle.period.specs.ComponentLaws.{component_edges}
+use Rattle.analysis.proofs.periods.Turns.{component_of, readable_of, enough_room, names, first_is, component_slices, turns_skip, turns_least, turns_no_least, turns_shown, turns_without, all_numbers, turns_all}
 use Rattle.analysis.proofs.periods.time_all.Goals as goal
-use Rattle.analysis.proofs.periods.time_all.Goals.{then-member-member_end+in-Least, then-member-member_end+in-NoLeast, else-member-member_end}
+use Rattle.analysis.proofs.periods.time_all.Goals.{in-Least, in-NoLeast}
 
-pub loop-c-init : goal.loop-c-init
-loop-c-init c = (turns_first _ c.requires refl, refl)
+pub loop-c-preserved-then-is_empty : goal.loop-c-preserved-then-is_empty
+loop-c-preserved-then-is_empty c = record {
+  turns = turns_skip c.requires.labelled c.loop-c.invariant.turns c.members_of-members.ensures (eqb-true _ _ (sym c.if-is_empty.ensures));
+  same_length = omega arith;
+}
 
-pub offset_bounds-ends-c : goal.offset_bounds-ends-c
-offset_bounds-ends-c c = omega (arith, c.requires.labelled.well_formed.few_ports)
-
-pub bounds-ends-c : goal.bounds-ends-c
-bounds-ends-c c =
-    omega (arith, c.requires.labelled.well_formed.few_ports)
-
-pub offset_bounds-ends-c-in-loop-c : goal.offset_bounds-ends-c-in-loop-c
-offset_bounds-ends-c-in-loop-c c =
-    omega (arith, c.requires.labelled.well_formed.few_ports)
-
-pub bounds-ends-c-in-loop-c : goal.bounds-ends-c-in-loop-c
-bounds-ends-c-in-loop-c c =
-    omega (arith, c.requires.labelled.well_formed.few_ports)
-
-pub offset_bounds-members-member : goal.offset_bounds-members-member
-offset_bounds-members-member c = omega (arith, members_part c.loop-c.invariant.0 (omega arith))
-
-pub slice_bounds-time_one-count : goal.slice_bounds-time_one-count
-slice_bounds-time_one-count c = omega (arith, members_part c.loop-c.invariant.0 (omega arith))
-
-pub slice_bounds-time_one-start : goal.slice_bounds-time_one-start
-slice_bounds-time_one-start c = omega (arith, members_part c.loop-c.invariant.0 (omega arith))
-
-pub slice_bounds-time_one-end : goal.slice_bounds-time_one-end
-slice_bounds-time_one-end c = omega (arith, members_part c.loop-c.invariant.0 (omega arith))
-
-pub offset_bounds-numbers-number : goal.offset_bounds-numbers-number
-offset_bounds-numbers-number c = omega (arith, numbers_part c.loop-c.invariant.0 (omega arith))
-
-pub slice_bounds-time_one-count-then-member-member_end : goal.slice_bounds-time_one-count-then-member-member_end
-slice_bounds-time_one-count-then-member-member_end c = omega (arith, numbers_part c.loop-c.invariant.0 (omega arith))
-
-pub slice_bounds-time_one-start-then-member-member_end : goal.slice_bounds-time_one-start-then-member-member_end
-slice_bounds-time_one-start-then-member-member_end c = omega (arith, numbers_part c.loop-c.invariant.0 (omega arith))
-
-pub slice_bounds-time_one-end-then-member-member_end : goal.slice_bounds-time_one-end-then-member-member_end
-slice_bounds-time_one-end-then-member-member_end c = omega (arith, numbers_part c.loop-c.invariant.0 (omega arith))
-
-pub time_one-one-requires : goal.time_one-one-requires
-time_one-one-requires c =
+pub invariant_of-graph : goal.invariant_of-graph
+invariant_of-graph c =
+    let slices = component_slices c.members_of-members.ensures c.numbers_of.ensures c.requires.labelled (eqb-false _ _ (sym c.if-is_empty.ensures)) in
     record {
-      component_slices = component_slices c.loop-c.invariant.0 (omega arith) c.if-member-member_end.true;
-      numbers_in_bounds = omega (arith, part_room c.loop-c.invariant.0 (omega arith) c.if-member-member_end.true, c.loop-c.invariant.1);
-      kept_len = c.loop-c.invariant.0.long;
+      readable = readable_of slices;
+      small_edges = component_edges (component_of slices);
     }
+
+pub time_one-one-requires-clause-component_slices : goal.time_one-one-requires-clause-component_slices
+time_one-one-requires-clause-component_slices c =
+    component_slices c.members_of-members.ensures c.numbers_of.ensures c.requires.labelled (eqb-false _ _ (sym c.if-is_empty.ensures))
+
+pub time_one-one-requires-clause-numbers_in_bounds : goal.time_one-one-requires-clause-numbers_in_bounds
+time_one-one-requires-clause-numbers_in_bounds c =
+    omega (arith, enough_room c.members_of-members.ensures c.numbers_of.ensures (omega arith) c.requires.room)
 
 pub returns-in-Shown : goal.returns-in-Shown
 returns-in-Shown c =
-    rw c.number_of.ensures (turns_shown c.loop-c.invariant.0 (omega arith) c.if-member-member_end.true (rw c.in-Shown.is at c.time_one-one.ensures))
+    let first = first_is c.members_of-members.ensures c.numbers_of.ensures c.requires.labelled (eqb-false _ _ (sym c.if-is_empty.ensures)) in
+    rw c.number.ensures (turns_shown c.requires.labelled c.loop-c.invariant.turns (rw first at c.in-Shown.ensures))
 
 pub loop-c-preserved : goal.loop-c-preserved
 loop-c-preserved c =
-    let turns = c.loop-c.invariant in (
-      elim c.if-member-member_end.branch [
-        | then-member-member_end+in-Least w ↦ rw (w.answer-is, w.kept-is, w.least-is) (turns_least turns.0 (omega arith) w.if-member-member_end.true (rw w.in-Least.is at w.time_one-one.ensures))
-        | then-member-member_end+in-NoLeast w ↦ rw (w.answer-is, w.kept-is, w.least-is) (turns_no_least turns.0 (omega arith) w.if-member-member_end.true (rw w.in-NoLeast.is at w.time_one-one.ensures))
-        | else-member-member_end w ↦ rw (w.answer-is, w.kept-is, w.least-is) (turns_skip turns.0 (omega arith) w.if-member-member_end.false)
-      ],
-      omega arith,
-    )
+    let some = eqb-false _ _ (sym c.if-is_empty.ensures) in
+    let first = first_is c.members_of-members.ensures c.numbers_of.ensures c.requires.labelled some in
+    let component = names c.members_of-members.ensures c.numbers_of.ensures c.requires.labelled some in
+    record {
+      turns = elim c.match-one.branch [
+        | in-Least w ↦ rw w.least-is (turns_least c.requires.labelled c.loop-c.invariant.turns (rw first at w.in-Least.ensures))
+        | in-NoLeast w ↦ rw w.least-is (turns_no_least c.requires.labelled c.loop-c.invariant.turns component (rw first at w.in-NoLeast.ensures))
+      ];
+      same_length = omega arith;
+    }
 
-pub show_consistent-written-requires : goal.show_consistent-written-requires
-show_consistent-written-requires c =
-    all_numbers c.loop-c.invariant.0 (omega arith) c.if-least.true
+pub returns-then-not-least : goal.returns-then-not-least
+returns-then-not-least c =
+    rw c.into.ensures (turns_without c.requires.labelled c.loop-c.invariant.turns (omega arith) c.if-not-least.true)
 
-pub returns-then-least : goal.returns-then-least
-returns-then-least c =
-    rw c.number_of-then-least.ensures (turns_all c.loop-c.invariant.0 (omega arith) c.if-least.true c.show_consistent-written.ensures)
+pub invariant_of-timings : goal.invariant_of-timings
+invariant_of-timings c = record { numbers = all_numbers c.requires.labelled c.loop-c.invariant.turns (omega arith) c.if-not-least.false }
 
 pub returns : goal.returns
-returns c = rw c.number_of-2.ensures (turns_without c.loop-c.invariant.0 (omega arith) c.if-least.false)
+returns c =
+    rw c.number-2.ensures (turns_all c.requires.labelled c.loop-c.invariant.turns (omega arith) c.if-not-least.false c.show_consistent.ensures)

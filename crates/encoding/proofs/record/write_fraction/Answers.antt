@@ -10,6 +10,7 @@ unfolding connection_fields link_fields encode bytes
 returns c =
     written (rw (
       c.put_number-3.ensures,
+      c.from.ensures,
       c.put_connection.ensures,
       c.put_number-2.ensures,
       c.put_number.ensures,

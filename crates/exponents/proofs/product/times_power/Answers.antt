@@ -1,14 +1,9 @@
--- The product so far times what is left of the power, up to the bound.
-use Rattle.exponents.proofs.product.Bounded.{powered_none, powered_room, powered_on}
-use borrow.Author.Tests.{leb-true}
-use borrow.Author.Rules.{rules}
+-- The power so far.
+use Rattle.exponents.proofs.product.Bounded.{powered_on, powered_past}
 use Rattle.exponents.proofs.product.times_power.Goals as goal
 
-pub loop-left-init : goal.loop-left-init
-loop-left-init c = search (powered_none, rules)
+pub returns-then-product-gt-BOUND : goal.returns-then-product-gt-BOUND
+returns-then-product-gt-BOUND c = powered_past c.requires c.loop.invariant c.loop-test.true c.if-product-gt-BOUND.true
 
-pub overflow_mul-product : goal.overflow_mul-product
-overflow_mul-product c = record { fits = search (powered_room, leb-true, rules) }
-
-pub loop-left-preserved : goal.loop-left-preserved
-loop-left-preserved c = search (powered_on, rules)
+pub loop-preserved : goal.loop-preserved
+loop-preserved c = powered_on c.requires c.loop.invariant c.if-product-gt-BOUND.false

@@ -1,7 +1,6 @@
 -- Where the rows fit m and l is parallel to it, they fit l uncompared.
 use Rattle.forest.proofs.agreement.Parallels.{parallel_fits}
-use borrow.Author.Rules.{rules}
 use Rattle.forest.proofs.agreement.agrees.Goals as goal
 
-pub returns-then-parallel : goal.returns-then-parallel
-returns-then-parallel c = search (parallel_fits, rules)
+pub returns-in-Some : goal.returns-in-Some
+returns-in-Some c = parallel_fits (rw c.in-Some.is at c.requires.known_to_fit) c.parallel.ensures c.if-parallel.true

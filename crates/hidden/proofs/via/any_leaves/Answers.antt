@@ -1,32 +1,35 @@
--- None of the new connections so far leaves its range. The measure is how many are left.
-use mathlib.Core.Path.{sym}
-use native.Mathlib.Omega.{arith}
-use Rattle.specification.specs.Table.{most_links}
-use Rattle.table.specs.Slices.{links_of}
-use Rattle.hidden.specs.Sides.{picked}
-use Rattle.hidden.specs.ViaParts.{product_most}
-use Rattle.hidden.specs.Made.{made_from, made_length, stays_none, stays_on, stays_all, one_leaves}
+-- Each turn adds the pair of one connection into the port and one out of it.
+use Rattle.std.proofs.Common.{arith, sym, ◌∙◌}
+use Rattle.hidden.specs.Picked.{numbers_at, numbers_count}
+use Rattle.hidden.proofs.via.Pairs.{none_at_first, none_on, none_next, one_leaves, none_leave}
 use Rattle.hidden.proofs.via.any_leaves.Goals as goal
 
-pub overflow_mul-count : goal.overflow_mul-count
-overflow_mul-count c = let given = c.requires in omega (arith, product_most most_links most_links given.into_len_bound given.from_len_bound)
+pub loop-first-init : goal.loop-first-init
+loop-first-init c = none_at_first _ _
 
-pub loop-k-init : goal.loop-k-init
-loop-k-init c = stays_none
+pub loop-second-init : goal.loop-second-init
+loop-second-init c = c.loop-first.invariant
 
 pub returns-then-leaves_range : goal.returns-then-leaves_range
 returns-then-leaves_range c =
-    let ls = links_of c.args.links.now in
-    let made = made_from (picked ls c.args.into.now) (picked ls c.args.from.now) in
-    sym (one_leaves made (omega (arith, made_length (links_of c.args.links.now) c.args.into.now c.args.from.now)) c.made_at.ensures c.leaves_range.ensures c.if-leaves_range.true)
+    let s = c.args.sides.now in
+    sym (one_leaves _ _ c.loop-second.invariant (omega (arith, numbers_count s.parted.into_are, c.loop-first-test.true)) (omega (arith, numbers_count s.parted.from_are, c.loop-second-test.true))
+    (numbers_at s.parted.into_are _ c.loop-first-test.true c.link-x.ensures.whole)
+    (numbers_at s.parted.from_are _ c.loop-second-test.true c.link.ensures.whole)
+    c.made_via.ensures
+    (sym c.leaves_range.ensures ∙ c.if-leaves_range.true))
 
-pub overflow_add-k : goal.overflow_add-k
-overflow_add-k c = let given = c.requires in omega (arith, product_most most_links most_links given.into_len_bound given.from_len_bound)
+pub loop-second-preserved : goal.loop-second-preserved
+loop-second-preserved c =
+    let s = c.args.sides.now in
+    none_on _ _ c.loop-second.invariant
+    (numbers_at s.parted.into_are _ c.loop-first-test.true c.link-x.ensures.whole)
+    (numbers_at s.parted.from_are _ c.loop-second-test.true c.link.ensures.whole)
+    c.made_via.ensures
+    (sym c.leaves_range.ensures ∙ c.if-leaves_range.false)
 
-pub loop-k-preserved : goal.loop-k-preserved
-loop-k-preserved c =
-    stays_on c.loop-k.invariant (omega (arith, made_length (links_of c.args.links.now) c.args.into.now c.args.from.now)) c.made_at.ensures c.leaves_range.ensures c.if-leaves_range.false
+pub loop-first-preserved : goal.loop-first-preserved
+loop-first-preserved c = none_next _ _ c.loop-second.invariant (omega (arith, numbers_count c.args.sides.now.parted.from_are))
 
 pub returns : goal.returns
-returns c =
-    sym (stays_all c.loop-k.invariant (omega (arith, made_length (links_of c.args.links.now) c.args.into.now c.args.from.now)))
+returns c = sym (none_leave _ _ c.loop-first.invariant (omega (arith, numbers_count c.args.sides.now.parted.into_are)))

@@ -1,13 +1,13 @@
--- None of the new connections so far leaves its range. The measure is how many are left.
-use Prim.Native.Nat.{◌*◌, ◌-◌}
-use lib.ListN.{length}
-use Rattle.table.specs.Slices.{links_of}
-use Rattle.hidden.specs.Sides.{picked}
-use Rattle.hidden.specs.Made.{made_from, StaysFirst}
+-- No pair so far leaves its range.
+use Rattle.specification.specs.Hiding.{links_into, links_from}
+use Rattle.table.specs.Held.{table_in}
+use Rattle.hidden.proofs.via.Pairs.{NoneSoFar}
 use Rattle.hidden.proofs.via.any_leaves.Given as goal
 
-abbrev pub invariant-loop-k : goal.invariant-loop-k
-invariant-loop-k l = StaysFirst (made_from (picked (links_of l.links) l.into) (picked (links_of l.links) l.from)) l.k
+abbrev pub invariant-loop-second : goal.invariant-loop-second
+invariant-loop-second l =
+    let t = table_in l.sides.table.now in NoneSoFar (links_into t l.sides.port) (links_from t l.sides.port) l.first-index l.second-index
 
-abbrev pub decreases-loop-k : goal.decreases-loop-k
-decreases-loop-k l = length l.into * length l.from - l.k
+abbrev pub invariant-loop-first : goal.invariant-loop-first
+invariant-loop-first l =
+    let t = table_in l.sides.table.now in NoneSoFar (links_into t l.sides.port) (links_from t l.sides.port) l.first-index 0

@@ -1,16 +1,21 @@
 -- Each digit in turn.
-use native.Mathlib.Omega.{arith}
-use Rattle.hide_report.proofs.argument.Digits.{spelled_none, spelled_digit, spelled_on, spelled_all}
+use Rattle.std.proofs.Common.{sym, eqb-true, arith}
+use Rattle.std.proofs.lemmas.Bool.{eqb-false}
+use Rattle.hide_report.proofs.Digits.{named_none, named_off, spelled_on, named_all}
 use Rattle.hide_report.proofs.argument.port_number.Goals as goal
 
-pub loop-i-init : goal.loop-i-init
-loop-i-init c = spelled_none c.requires
+pub returns-then-is_empty : goal.returns-then-is_empty
+returns-then-is_empty c = named_none _ (eqb-true _ _ (sym c.if-is_empty.ensures))
 
-pub with_digit-n-requires : goal.with_digit-n-requires
-with_digit-n-requires c = let inv = c.loop-i.invariant in record { n_le_most_ports = inv.most; c_value = spelled_digit inv (omega arith) }
+pub returns-then-not-is_ascii_digit : goal.returns-then-not-is_ascii_digit
+returns-then-not-is_ascii_digit c = let digit = c.if-not-is_ascii_digit.ensures in named_off c.loop-c.invariant (omega arith) (sym digit.value)
 
-pub loop-i-preserved : goal.loop-i-preserved
-loop-i-preserved c = spelled_on c.loop-i.invariant (omega arith) c.with_digit-n.ensures
+pub loop-c-preserved : goal.loop-c-preserved
+loop-c-preserved c =
+    let digit = c.if-not-is_ascii_digit.ensures in
+    spelled_on c.loop-c.invariant (omega arith) (sym digit.value) (omega (arith, c.from.ensures, c.min-number.ensures))
 
 pub returns : goal.returns
-returns c = spelled_all c.loop-i.invariant (omega arith)
+returns c =
+    let empty = eqb-false _ _ (sym c.if-is_empty.ensures) in
+    named_all c.loop-c.invariant (omega arith) (omega (arith, empty))

@@ -1,17 +1,18 @@
 -- By whether the first table has a fault.
+use mathlib.Core.Path.{◌≡◌}
 use native.Mathlib.Omega.{arith}
+use Rattle.std.specs.Prelude.{Err}
+use borrow.Author.Rules.{rules}
 use Rattle.joins.proofs.inputs.Held.{held_room, first_next, first_faulty, tables_read}
 use Rattle.joins.proofs.inputs.read_tables.Goals as goal
 
-pub returns-then-a-ne0 : goal.returns-then-a-ne0
-returns-then-a-ne0 c =
-    let one = first_next _ _ c.requires c.read_input-a.ensures in
-    first_faulty one c.if-a-ne0.true (c.read_input-a.ensures.faulty c.if-a-ne0.true)
+pub returns-in_err-one : goal.returns-in_err-one
+returns-in_err-one c =
+    let e : c.from_residual.result ≡ Err c.in_err-one.field-0.0 = search rules in
+    rw e (λ added. first_faulty c.in_err-one.ensures)
 
-pub read_input-requires : goal.read_input-requires
-read_input-requires c =
-    held_room (first_next _ _ c.requires c.read_input-a.ensures).held (omega arith) (omega arith)
+pub read_input-requires-2 : goal.read_input-requires-2
+read_input-requires-2 c = held_room (first_next _ _ c.requires c.in_ok-one.ensures).held (omega arith) (omega arith)
 
 pub returns : goal.returns
-returns c =
-    tables_read c.read_input-a.ensures c.read_input.ensures c.requires c.if-a-ne0.false
+returns c = tables_read _ _ _ c.requires c.in_ok-one.ensures c.read_input-2.ensures

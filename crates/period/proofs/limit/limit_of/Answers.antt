@@ -1,15 +1,9 @@
--- Rate times weight is small; by its test.
-use native.Mathlib.Omega.{arith}
-use Rattle.period.proofs.limit.Read.{read_product, read_none, read_limit}
-use borrow.Author.Rules.{rules}
+-- By the test of rate times weight.
+use Rattle.period.proofs.limit.Read.{read_none, read_limit}
 use Rattle.period.proofs.limit.limit_of.Goals as goal
 
-pub overflow_mul-over : goal.overflow_mul-over
-overflow_mul-over c =
-    omega (arith, read_product c.requires c.num-num.ensures)
-
 pub returns-then-over-eq0 : goal.returns-then-over-eq0
-returns-then-over-eq0 c = search (read_none, rules)
+returns-then-over-eq0 c = read_none c.requires c.port-rate.ensures c.if-over-eq0.true
 
 pub returns : goal.returns
-returns c = search (read_limit, rules)
+returns c = read_limit c.requires c.port-rate.ensures c.if-over-eq0.false c.reduced.ensures

@@ -1,17 +1,17 @@
--- What the loop leaves to store, put into the tail as it is now, makes the whole number's bytes.
+-- The bytes before this one are stored.
 use Prim.Native.Nat.{ℕ}
-use mathlib.Core.Path.{ap}
 use native.Mathlib.Omega.{arith}
-use borrow.Author.Rules.{rules}
-use Rattle.specification.specs.Bytes.{bytes}
-use Rattle.records.proofs.write.Laws.{left_all, byte_less, byte_none}
+use Rattle.std.proofs.lemmas.List.{length-take, length-drop}
+use Rattle.records.proofs.write.Laws.{storing_none, storing_on, storing_all, stored_part}
 use Rattle.records.proofs.write.put_number.Goals as goal
 
-pub loop-i-init : goal.loop-i-init
-loop-i-init c = left_all (omega arith) (ap (λ (k : ℕ). bytes k c.args.v) (omega arith))
+pub loop-byte-init : goal.loop-byte-init
+loop-byte-init c = storing_none c.args.v (omega (arith, length-take {A = ℕ}, length-drop {A = ℕ}))
 
-pub loop-i-preserved : goal.loop-i-preserved
-loop-i-preserved c = search (byte_less, rules)
+pub loop-byte-preserved : goal.loop-byte-preserved
+loop-byte-preserved c = storing_on c.loop-byte.invariant (omega (arith, c.loop-byte.invariant.long))
 
 pub returns : goal.returns
-returns c = byte_none _ _ _ _ _ c.loop-i-test.false c.loop-i.invariant
+returns c =
+    stored_part c.args.tail.now c.args.at c.args.n c.args.v c.requires c.loop-byte.invariant.long
+    (storing_all c.loop-byte.invariant (omega (arith, c.loop-byte.invariant.long)))

@@ -6,5 +6,5 @@ use Rattle.results.proofs.sizes.events_needed.Goals as goal
 pub returns-then-above-length-eq0 : goal.returns-then-above-length-eq0
 returns-then-above-length-eq0 c = search (exact_found, rules)
 
-pub returns : goal.returns
-returns c = search (part_found, rules)
+pub returns-else-above-length-eq0 : goal.returns-else-above-length-eq0
+returns-else-above-length-eq0 c = search (part_found, rules)

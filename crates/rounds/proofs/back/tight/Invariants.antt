@@ -1,11 +1,6 @@
--- `period::back::tight` meets its contract. The invariant: an edge from k on is tight. The measure is how many edges are left.
+-- An edge from k on is tight.
 use Rattle.rounds.proofs.back.Ahead.{Ahead}
-use Rattle.rounds.specs.Costs.{count}
-use Prim.Native.Nat.{◌-◌}
 use Rattle.rounds.proofs.back.tight.Given as goal
 
-abbrev pub invariant-loop-from : goal.invariant-loop-from
-invariant-loop-from l = Ahead l.costs l.rows l.r l.p l.k
-
-abbrev pub decreases-loop-from : goal.decreases-loop-from
-decreases-loop-from l = count l.costs - l.k
+abbrev pub invariant-loop-k : goal.invariant-loop-k
+invariant-loop-k l = Ahead l.costs l.rows l.r l.p l.k

@@ -4,10 +4,10 @@ use Rattle.rounds.proofs.starts.Buffer.{can_round_copy, advanced, costs_kept}
 use Rattle.rounds.proofs.starts.advance.Goals as goal
 
 pub round-grew-requires-clause-can_round : goal.round-grew-requires-clause-can_round
-round-grew-requires-clause-can_round c = can_round_copy c.requires c.copy.ensures
+round-grew-requires-clause-can_round c = can_round_copy c.requires c.copy_from_slice.ensures.after
 
-pub returns : goal.returns
-returns c = record {
-  advanced = advanced c.requires c.copy.ensures c.copy-2.ensures c.round-grew.ensures;
-  edges_unchanged = costs_kept c.requires c.copy.ensures c.copy-2.ensures (omega arith);
-}
+pub returns-clause-advanced : goal.returns-clause-advanced
+returns-clause-advanced c = advanced c.requires c.copy_from_slice.ensures.after c.copy_from_slice-2.ensures.after c.round-grew.ensures
+
+pub returns-clause-edges_unchanged : goal.returns-clause-edges_unchanged
+returns-clause-edges_unchanged c = costs_kept c.requires c.copy_from_slice.ensures.after c.copy_from_slice-2.ensures.after (omega arith)

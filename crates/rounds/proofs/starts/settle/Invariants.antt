@@ -1,11 +1,7 @@
 -- Each turn of the loop makes one round more, until one changes nothing.
-use Prim.Native.Nat.{◌-◌}
 use Rattle.rounds.specs.Starts.{costs_in}
 use Rattle.rounds.proofs.starts.RoundsMade.{RoundsMade}
 use Rattle.rounds.proofs.starts.settle.Given as goal
 
 abbrev pub invariant-loop-r : goal.invariant-loop-r
-invariant-loop-r l = RoundsMade (costs_in l.initial.work l.n l.edges) l.n l.edges l.initial.work l.work l.r l.grew
-
-abbrev pub decreases-loop-r : goal.decreases-loop-r
-decreases-loop-r l = l.n - l.r
+invariant-loop-r l = RoundsMade (costs_in l.initial.work l.n l.edges) l.n l.edges l.initial.work l.work l.r l.raised

@@ -1,6 +1,7 @@
--- The casts keep their values, since the link is within the limits.
+-- The part that is written holds the link's numbers.
 use native.Mathlib.Omega.{arith}
+use Rattle.table.proofs.Stored.{put_mid_sets}
 use Rattle.table.proofs.links.store.Goals as goal
 
-pub store_numbers-requires : goal.store_numbers-requires
-store_numbers-requires c = omega (arith, c.requires.k_in_bounds)
+pub returns : goal.returns
+returns c = put_mid_sets _ _ _ _ _ c.copy_from_slice.ensures.after (omega arith) (omega arith)

@@ -1,17 +1,18 @@
--- The first line and the records' lines, one behind another; the text fits.
+-- The text fits, and is written from the front on.
 use native.Mathlib.Omega.{arith}
-use Rattle.text.specs.Lines.{answer_line}
-use Rattle.text.specs.Printed.{printed}
+use borrow.Author.Rules.{rules}
 use Rattle.text.specs.Sizes.{printed_size}
-use Rattle.records.specs.WrittenLaws.{written_within}
-use Rattle.text.specs.Put.{◌⨾◌, written}
+use Rattle.text.specs.Writer.{written, room_at_front}
 use Rattle.text.proofs.print.print.Goals as goal
 
+pub write_answer-requires : goal.write_answer-requires
+write_answer-requires c =
+    room_at_front c.new-out.ensures (omega (arith, (printed_size c.args.number c.args.place c.args.records.now).within))
+
 pub returns : goal.returns
-unfolding printed answer_line
 returns c =
-    let given = c.args in
-    let room = (printed_size given.number given.place given.records.now).within in
-    let line = c.put_field-end.ensures.put ⨾ c.put_place-end.ensures.put ⨾ c.put_word-end.ensures in
-    let w = written (line ⨾ c.put_records.ensures) (omega arith) in
-    record { written = w; upper_bound = written_within w }
+    let size = printed_size c.args.number c.args.place c.args.records.now in
+    record {
+      written = written c.new-out.ensures c.write_answer.ensures (omega arith) (search rules);
+      upper_bound = search rules;
+    }

@@ -1,10 +1,8 @@
 -- A line put at the front is written.
 use native.Mathlib.Omega.{arith}
-use Rattle.records.specs.WrittenLaws.{written_within}
-use Rattle.text.specs.Put.{written}
+use borrow.Author.Rules.{rules}
+use Rattle.text.specs.Writer.{written}
 use Rattle.text.proofs.print.print_line.Goals as goal
 
-pub returns : goal.returns
-returns c =
-    let w = written c.put_word.ensures (omega arith) in
-    record { written = w; upper_bound = written_within w }
+pub returns-clause-written : goal.returns-clause-written
+returns-clause-written c = written c.new-out.ensures c.word.ensures (omega arith) (search rules)

@@ -2,26 +2,16 @@
 use mathlib.Core.Path.{sym, ◌∙◌}
 use Rattle.forest.specs.Parts.{greatest_most}
 use Rattle.weights.proofs.ratios.Unit.{unit_weights}
-use Rattle.weights.proofs.ratios.Decided.{agreed}
 use Rattle.weights.proofs.ratios.ratios_of.Goals as goal
+use Rattle.weights.proofs.ratios.ratios_of.Goals.{then-most-eq0, else-most-eq0+in_ok-weights}
 
-pub make_whole-passes-requires : goal.make_whole-passes-requires
-make_whole-passes-requires c =
-    let none = sym c.greatest_part-most.ensures ∙ c.if-most-eq0.true in
-    record {
-      well_formed = c.requires.well_formed;
-      components = c.components-labels.ensures;
-      has_base_weights = unit_weights c.requires.well_formed none (rw c.count.ensures at c.ones-weights.ensures);
-    }
+pub by_rows-requires-clause-parts_at_most : goal.by_rows-requires-clause-parts_at_most
+by_rows-requires-clause-parts_at_most c = rw c.greatest_part-most.ensures (greatest_most _)
 
-pub returns-then-most-eq0 : goal.returns-then-most-eq0
-returns-then-most-eq0 c =
-    agreed _ c.components-labels.ensures c.make_whole-passes.ensures c.agreement_of.ensures
-
-pub by_rows-requires : goal.by_rows-requires
-by_rows-requires c = record {
-  well_formed = c.requires.well_formed;
-  components = c.components-labels.ensures;
-  parts_at_most = rw c.greatest_part-most.ensures (greatest_most _);
-  in_bounds = c.requires.in_bounds;
-}
+pub make_whole-requires-clause-has_base_weights : goal.make_whole-requires-clause-has_base_weights
+make_whole-requires-clause-has_base_weights c = elim c.if-most-eq0.branch [
+  | then-most-eq0 w ↦
+      let none = sym c.greatest_part-most.ensures ∙ w.if-most-eq0.true in
+      rw w.weights-is (unit_weights c.args.table.now.well_formed none (rw w.port_count.ensures at w.ones-weights.ensures))
+  | else-most-eq0+in_ok-weights w ↦ rw w.weights-is w.in_ok-weights.ensures.0
+]

@@ -1,12 +1,7 @@
--- Each turn of the loop passes one port more. The measure is how many are left.
-use Rattle.specification.specs.Table.{port_count}
-use Rattle.table.specs.Slices.{table_of}
+-- The rows of the ports below p are taken in.
+use Rattle.table.specs.Held.{table_in}
 use Rattle.weights.specs.LeastRows.{LeastRows}
-use Prim.Native.Nat.{◌-◌}
 use Rattle.weights.proofs.weights.least_rows.Given as goal
 
 abbrev pub invariant-loop-p : goal.invariant-loop-p
-invariant-loop-p l = LeastRows (table_of l.ports l.links) l.labels l.rows l.p l.least
-
-abbrev pub decreases-loop-p : goal.decreases-loop-p
-decreases-loop-p l = port_count (table_of l.ports l.links) - l.p
+invariant-loop-p l = LeastRows (table_in l.table) l.labels l.rows l.p l.least

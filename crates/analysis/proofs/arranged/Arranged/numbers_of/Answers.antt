@@ -1,0 +1,10 @@
+-- The part of an order by keys that is one key's.
+use Rattle.std.proofs.Common.{◌∙◌, arith}
+use Rattle.analysis.proofs.Ordering.{inside, keyed_part}
+use Rattle.analysis.proofs.arranged.Arranged.numbers_of.Goals as goal
+
+pub part-requires-clause-inside : goal.part-requires-clause-inside
+part-requires-clause-inside c = inside c.args.self.now.numbers_ordered _ (omega arith)
+
+pub returns : goal.returns
+returns c = record { are = c.part.ensures ∙ keyed_part c.args.self.now.numbers_ordered _ (omega arith) }

@@ -1,2 +1,0 @@
--- What the proof of `write_link` uses.
-mod ByKind

@@ -1,3 +1,0 @@
--- What the proofs of `product` and `less` use.
-mod Columns
-mod Words

@@ -1,0 +1,2 @@
+-- What the proof of `any_leaves` uses.
+mod Pairs

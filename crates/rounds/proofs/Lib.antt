@@ -1,0 +1,2 @@
+-- What both files use.
+mod Chunks

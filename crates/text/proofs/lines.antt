@@ -1,3 +1,0 @@
--- What the proofs of the lines use.
-mod Items
-mod Period

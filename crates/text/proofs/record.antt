@@ -1,0 +1,3 @@
+-- What the proofs of the records use.
+mod Fronts
+mod Period

@@ -1,0 +1,4 @@
+-- What the proofs of the writer use.
+mod Copying
+mod Digits
+pub mod Part

@@ -1,9 +1,0 @@
--- By the side.
-use borrow.Author.Tests.{eq-eqb, ne_eqb}
-use Rattle.weights.proofs.whole.amount_of.Goals as goal
-
-pub returns-then-side-eq0 : goal.returns-then-side-eq0
-returns-then-side-eq0 c = rw (eq-eqb _ 0 c.if-side-eq0.true)
-
-pub returns-else-side-eq0 : goal.returns-else-side-eq0
-returns-else-side-eq0 c = rw (ne_eqb _ 0 c.if-side-eq0.false)
