@@ -8,8 +8,8 @@
 pub const ANSWER_BYTES: usize = 5120;
 
 /// A thread with a stack of this many bytes can analyse every table, join and preview any two and hide any port (`bench/run` tries it out; it is not
-/// proved; none recurses). With rattle-kit-13f the frames of the analysis take 72,784 of them, those of the join 11,080, of the preview
-/// 72,816 and of hiding 72,944.
+/// proved; none recurses). With rattle-kit-13f the frames of the analysis take 72,800 of them, those of the join 11,240, of the preview
+/// 72,832 and of hiding 72,960.
 pub const STACK_BYTES: usize = 98_304;
 
 /// A buffer of this many bytes suffices for every joined table and for every table with a hidden port; a shorter one may be refused with number

@@ -18,7 +18,7 @@ use refusals::Refusal;
 use specification::{Outcome, limits};
 use table::{Table, reading};
 use weights::ratios;
-use weights::ratios::{Discord, Weighted};
+use weights::ratios::{Discord, Unweighted, Weighted};
 
 mod arranged;
 mod periods;
@@ -62,15 +62,17 @@ pub fn decide(table: &Table, answer: &mut [u8]) -> Outcome
     ensures { Decided (table_in table.now) answer.old answer.new result }
 {
     let mut loop_numbers = [0u64; 128];
-    match ratios::ratios_of(table, &mut loop_numbers) {
-        Ok(weighted) => time(table, &weighted, answer),
-        Err(discord) => {
-            let written = match discord {
+    let ratios = ratios::ratios_of(table, &mut loop_numbers);
+    // By reference, so that the weights are not copied.
+    match &ratios {
+        Ok(weighted) => time(table, weighted, answer),
+        Err(unweighted) => {
+            let written = match unweighted.discord {
                 Discord::Loop(steps) => show::show_loop(&loop_numbers[..2 * steps], answer),
                 Discord::OverLimit => 0,
             };
             Outcome {
-                number: Refusal::from(discord).number(),
+                number: unweighted.number(),
                 place: 0,
                 written,
             }

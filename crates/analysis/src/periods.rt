@@ -4,8 +4,6 @@ ghost use Rattle.specification.specs.Table.{link_count};
 ghost use Rattle.table.specs.Held.{table_in};
 ghost use Rattle.table.specs.Slices.{table_of};
 ghost use Rattle.graph.specs.Arranged.{Labelled, most_members};
-ghost use Rattle.period.specs.Greatest.{GreatestLimit};
-ghost use Rattle.period.specs.Held.{limits_in};
 ghost use Rattle.analysis.specs.Decided.{Decided};
 ghost use Rattle.analysis.specs.Timed.{Members, IsKept, number_of, OneTimed, ComponentSlices};
 
@@ -13,7 +11,6 @@ use crate::arranged::Arranged;
 use crate::show;
 use fraction::Fraction;
 use period::constraint_graph::ConstraintGraph;
-use period::limit::Limit;
 use period::search::SearchEnd;
 use period::{limit, search};
 use refusals::Refusal;
@@ -37,10 +34,10 @@ fn keep(members: &[u64], period: Fraction, starts: &[u64], kept: &mut [Kept; 64]
     }
 }
 
-// What stands for a port before its component is timed.
+// What stands for a port before its component is timed. All of it is 0, since to fill with anything else takes longer.
 const NOTHING: Kept = Kept {
     component: 0,
-    period: Fraction::ZERO,
+    period: Fraction { num: 0, den: 0 },
     start: 0,
 };
 
@@ -76,9 +73,8 @@ fn time_one(
     requires numbers_in_bounds { 64 * length graph.now.members.now + 64 + 4 * length graph.now.numbers.now ≤ length work.old }
     ensures { OneTimed (table_of graph.now.ports.now graph.now.links.now) graph.now.weights.now (get_or graph.now.members.now 0 0) kept.old kept.new answer.old answer.new result }
 {
-    let greatest = limit::greatest_limit(graph.ports, graph.weights, graph.members);
     if graph.numbers.is_empty() {
-        return match greatest {
+        return match limit::greatest_limit(graph.ports, graph.weights, graph.members) {
             Some(limit) => {
                 keep(graph.members, limit.value, &[], kept);
                 Timed::Least
@@ -86,30 +82,32 @@ fn time_one(
             None => Timed::NoLeast,
         };
     }
-    search_one(graph, greatest, work, kept, answer)
+    // A copy, so that the graph of a component that is not searched stays out of memory.
+    let searched = *graph;
+    search_one(&searched, work, kept, answer)
 }
 
-// A component that is searched. Apart from the other kind, which else would clear the room of the cycles too.
+// A component that is searched. Apart from the other kind, which else would clear the room of the cycles too, and have fewer registers.
+#[inline(never)]
 fn search_one(
     graph: &ConstraintGraph,
-    greatest: Option<Limit>,
     work: &mut [u64],
     kept: &mut [Kept; 64],
     answer: &mut [u8],
 ) -> Timed
     requires component_slices { ComponentSlices (table_of graph.now.ports.now graph.now.links.now) graph.now.weights.now graph.now.members.now graph.now.numbers.now }
     requires numbers_in_bounds { 64 * length graph.now.members.now + 64 + 4 * length graph.now.numbers.now ≤ length work.old }
-    requires greatest_limit { GreatestLimit graph.now.members.now (limits_in graph.now) greatest }
     ensures { OneTimed (table_of graph.now.ports.now graph.now.links.now) graph.now.weights.now (get_or graph.now.members.now 0 0) kept.old kept.new answer.old answer.new result }
 {
+    let greatest = limit::greatest_limit(graph.ports, graph.weights, graph.members);
     match search::least_period(graph, greatest, work) {
-        SearchEnd::Least { period, rounds } => {
+        SearchEnd::Least { period, rounds, .. } => {
             let row = 64 * (rounds - 1);
             keep(graph.members, period, &work[row..row + 64], kept);
             Timed::Least
         }
-        SearchEnd::NoLeast => Timed::NoLeast,
-        SearchEnd::Blocked { floor, block } => {
+        SearchEnd::NoLeast { .. } => Timed::NoLeast,
+        SearchEnd::Blocked { floor, block, .. } => {
             Timed::Shown(show::show_blocked(graph.numbers, &floor, &block, answer))
         }
     }

@@ -1,16 +1,27 @@
--- What sorting asks of the labels and the owners.
+-- How many ports and connections a component has, and what sorting asks of the labels and the owners.
 use Rattle.std.specs.Prelude.{ℕ, ◌+◌, ◌≤◌, ◌<◌, Bool, true, false, List, length, get_or}
 use Rattle.std.proofs.Common.{arith}
 use Rattle.specification.specs.Table.{Table, port_count, link_count, link, is_buffer, IsPort}
 use Rattle.order.specs.Order.{Sortable}
-use Rattle.order.specs.OrderLaws.{few_most}
+use Rattle.order.specs.OrderLaws.{few_keyed, few_most, most_keyed_lem}
 use Rattle.demands.specs.ConstraintLaws.{names_component}
 use Rattle.table.specs.WellFormed.{WellFormed}
 use Rattle.ways.specs.Labels.{Components}
 use Rattle.graph.specs.Owners.{owner_of}
 use Rattle.graph.specs.OwnersLaws.{owners_length, owners_at}
-use Rattle.graph.specs.Arranged.{Labelled, labels_of, most_members, link_owners}
+use Rattle.graph.specs.Arranged.{Labelled, labels_of, most_members, link_owners, SlicesIn}
 use Rattle.graph.specs.SliceLaws.{labels_length, label_at}
+
+module _ {t : Table} {labels : List ℕ} {c : ℕ} {members numbers : List ℕ} (s : SlicesIn t labels c members numbers) where
+  pub few_members : c < port_count t → length members ≤ most_members t labels
+  few_members low =
+      let keys = labels_of t labels in
+      rw s.members_are (most_keyed_lem keys (length keys) (port_count t) low)
+
+  pub few_numbers : length numbers ≤ link_count t
+  few_numbers =
+      let owners = link_owners t labels in
+      rw s.numbers_are (omega (arith, few_keyed owners c (length owners), owners_length t labels (link_count t)))
 
 module _ {t : Table} {labels : List ℕ} (formed : WellFormed t) (components : Components t labels) where
   label_below : {p : ℕ} → IsPort t p → get_or labels p 0 < port_count t

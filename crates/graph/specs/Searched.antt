@@ -37,6 +37,6 @@ module _ (t : Table) (weights : List ℕ) (c : ℕ) where
     pub block_steps : (i : ℕ) → i ∈ cycle_of block → i < length numbers
 
   abbrev pub Searched : (numbers work : List ℕ) → SearchEnd → Type 0
-  Searched numbers work (Least period rounds) = PeriodIn period (row work (rounds - 1))
-  Searched numbers work EndsWithout = NoLeast (graph_in t (λ p. get_or weights p 0) c)
-  Searched numbers work (EndsBlocked floor block) = BlockIn floor block numbers
+  Searched numbers work (Least period floor rounds) = PeriodIn period (row work (rounds - 1))
+  Searched numbers work (EndsWithout rounds) = NoLeast (graph_in t (λ p. get_or weights p 0) c)
+  Searched numbers work (EndsBlocked floor block rounds) = BlockIn floor block numbers

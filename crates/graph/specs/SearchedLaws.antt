@@ -57,14 +57,14 @@ translated : (t : Table) (weights ports limits edges numbers work : List ℕ) {c
     → ((i : ℕ) → (graph_of ports limits edges).IsEdge i → i < length numbers)
     → SearchResult ports limits edges work r
     → Searched t weights c numbers work r
-translated t weights ports limits edges numbers work (Least period rounds) n inside found = record {
+translated t weights ports limits edges numbers work (Least period floor rounds) n inside found = record {
   period = numbered_period n found.period;
   least = numbered_starts n found.least;
   small = found.small;
   small_starts = λ p i. found.small_starts p;
 }
-translated t weights ports limits edges numbers work EndsWithout n inside found = numbered_no_least n found.no_least_lem
-translated t weights ports limits edges numbers work (EndsBlocked floor block) n inside found = record {
+translated t weights ports limits edges numbers work (EndsWithout rounds) n inside found = numbered_no_least n found.no_least_lem
+translated t weights ports limits edges numbers work (EndsBlocked floor block rounds) n inside found = record {
   is_blocked = numbered_blocked numbers n (cycle_of block) floor found.is_blocked;
   limit_steps = λ limit lower i m. inside i (limit_edges (graph_of ports limits edges) (cycle_of block) limit floor found.is_blocked lower i m);
   block_steps = λ i m. inside i (cycle_edges (blocked_cycle (floor_in floor) found.is_blocked) i m);

@@ -16,7 +16,6 @@ use Rattle.specification.specs.Hiding.{
   links_from,
   cannot_hide,
   lowers,
-  sender,
   limit_rate,
   rate_leaves,
   link_leaves,
@@ -27,13 +26,14 @@ use Rattle.specification.specs.Hiding.{
   hide_in,
 }
 use Rattle.specification.specs.declared.Outcome.{Outcome}
+use Rattle.specification.specs.declared.Port.{Port}
 use Rattle.refusals.specs.declared.Refusal.{Refusal}
 use Rattle.refusals.specs.Numbers.{number_of}
 use Rattle.records.specs.WrittenLaws.{written_none}
 use Rattle.hiding_laws.specs.TestLaws.{right_false}
 use Rattle.hidden.specs.Made.{each_stays}
-use Rattle.hidden.specs.declared.rate.Lowered.{Lowered}
-use Rattle.hidden.specs.Limits.{lowered}
+use Rattle.hidden.specs.declared.rate.Limit.{Limit}
+use Rattle.hidden.specs.Limits.{limit}
 use Rattle.hidden.specs.Without.{CanWrite, same_some, after_count}
 
 pub record HiddenIn (t : Table) (p : ℕ) (before after : List ℕ) (r : Outcome) : Type 0 where
@@ -84,21 +84,20 @@ module _ {t : Table} {p : ℕ} {before : List ℕ} where
             record { number_is = rw (can, stays, e, f); place_is = rw (can, stays, e, f); table_is = rw (can, stays, e, f) w }
 
 -- ---- 19, by its two tests
-limit_leaves : (t : Table) (p : ℕ) (o : Option Lowered) {a : Bool} (P : Lowered → Type 0) → o ≡ lowered t p → MatchOption o (a ≡ false) P
-    → ((l : Lowered) → P l → a ≡ rate_leaves l.rate)
-    → (b : Bool) → lowers t p ≡ b → o ≡ cond b (Some (record { sender = sender t p; rate = limit_rate t p })) None
-    → a ≡ (b && rate_leaves (limit_rate t p))
-limit_leaves t p None P e m k true f g = absurd cc
-limit_leaves t p None P e m k false f g = m
-limit_leaves t p (Some l) P e m k true f g = k l m ∙ ap (λ (x : Lowered). rate_leaves x.rate) (same_some g)
-limit_leaves t p (Some l) P e m k false f g = absurd cc
+limit_leaves : (o : Option Port) {a : Bool} (P : Port → Type 0) → MatchOption o (a ≡ false) P → ((r : Port) → P r → a ≡ rate_leaves r)
+    → (b : Bool) (due : Port) → o ≡ cond b (Some due) None
+    → a ≡ (b && rate_leaves due)
+limit_leaves None P m k true due g = absurd cc
+limit_leaves None P m k false due g = m
+limit_leaves (Some r) P m k true due g = k r m ∙ ap rate_leaves (same_some g)
+limit_leaves (Some r) P m k false due g = absurd cc
 
-pub leaves_is : (t : Table) (p : ℕ) (o : Option Lowered) {a b : Bool} (P : Lowered → Type 0) → o ≡ lowered t p → MatchOption o (a ≡ false) P
-    → ((l : Lowered) → P l → a ≡ rate_leaves l.rate)
+pub leaves_is : (t : Table) (p : ℕ) (l : Limit) {a b : Bool} (P : Port → Type 0) → l ≡ limit t p → MatchOption l.rate (a ≡ false) P
+    → ((r : Port) → P r → a ≡ rate_leaves r)
     → b ≡ not (none (keep link_leaves (made_links t p)))
     → (a || b) ≡ value_leaves t p
 unfolding value_leaves
-leaves_is t p o P e m k f = rw (limit_leaves t p o P e m k (lowers t p) refl e, f) refl
+leaves_is t p l P e m k f = rw (limit_leaves l.rate P m k (lowers t p) (limit_rate t p) (ap (λ (x : Limit). x.rate) e), f) refl
 
 -- ---- what 19 leaves
 module _ (t : Table) (p : ℕ) (stays : value_leaves t p ≡ false) where

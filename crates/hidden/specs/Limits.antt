@@ -1,5 +1,5 @@
 -- The lowest sender among the links into a port, and the limit that the rate of a hidden port puts on it.
-use Rattle.std.specs.Prelude.{ℕ, suc, ◌+◌, ◌-◌, ◌≤◌, ◌<◌, ◌≡◌, Bool, true, cond, ◌≢◌, ltb, get_or, Option, Some, None}
+use Rattle.std.specs.Prelude.{ℕ, suc, ◌+◌, ◌-◌, ◌≤◌, ◌<◌, ◌≡◌, Bool, true, cond, ◌≢◌, ltb, get_or, Some, None}
 use Rattle.std.proofs.Math.Path.{refl, sym, ap}
 use Rattle.std.specs.Bool.{then_some}
 use Rattle.std.proofs.Common.{◌∙◌, add-one, arith, take_all, drop-cons, eq-eqb, ne_eqb}
@@ -12,7 +12,7 @@ use Rattle.specification.specs.Table.{Table, no_link, port}
 use Rattle.specification.specs.Hiding.{lowest_of, lowest_sender, carried_rate, slower, sender_link, sender, limit_rate, lowers}
 use Rattle.specification.specs.declared.Port.{Port}
 use Rattle.specification.specs.declared.Link.{Link}
-use Rattle.hidden.specs.declared.rate.Lowered.{Lowered}
+use Rattle.hidden.specs.declared.rate.Limit.{Limit}
 
 -- number i of those behind the first is number i + 1 of all
 pub record RestAt (xs : List ℕ) (i : ℕ) : Type 0 where
@@ -51,25 +51,26 @@ module _ {xs : List Link} {lowest : Link} {i : ℕ} (f : LowestFirst xs lowest i
       let e : i ≡ length xs = omega (arith, f.within) in
       sym (ap (lowest_of lowest) (ap (λ (n : ℕ). drop n xs) e ∙ drop-length xs)) ∙ f.is
 
--- the sender whose rate is lowered, and the rate that it then has
-abbrev pub lowered : Table → ℕ → Option Lowered
-lowered t p = cond (lowers t p) (Some (record { sender = sender t p; rate = limit_rate t p })) None
+-- the lowest sender, and the rate that it then has where its own is lowered
+abbrev pub limit : Table → ℕ → Limit
+limit t p = record { sender = sender t p; rate = cond (lowers t p) (Some (limit_rate t p)) None }
 
-then_is : (b : Bool) (r : Lowered) → then_some b r ≡ cond b (Some r) None
+then_is : (b : Bool) (r : Port) → then_some b r ≡ cond b (Some r) None
 then_is true r = refl
 then_is false r = refl
 
-module _ (t : Table) (p : ℕ) {hidden : Port} (own : hidden ≡ port t p) where
-  pub none_lowered : hidden.num ≡ 0 → None ≡ lowered t p
+module _ (t : Table) (p : ℕ) {l : Link} {hidden : Port} (sent : l ≡ sender_link t p) (own : hidden ≡ port t p) where
+  pub limit_none : hidden.num ≡ 0 → record { sender = l.from; rate = None } ≡ limit t p
   unfolding lowers
-  none_lowered e = rw (eq-eqb (port t p).num 0 (sym (ap (λ (x : Port). x.num) own) ∙ e))
+  limit_none e =
+      rw (eq-eqb (port t p).num 0 (sym (ap (λ (x : Port). x.num) own) ∙ e)) (λ i. record { sender = (sent i).from; rate = None })
 
-  pub some_lowered : {l : Link} {rate s : Port} {b : Bool} → l ≡ sender_link t p → hidden.num ≢ 0 → rate ≡ carried_rate hidden l → s ≡ port t l.from → b ≡ slower rate s
-      → then_some b (record { sender = l.from; rate = rate }) ≡ lowered t p
+  pub limit_some : {rate s : Port} {b : Bool} → hidden.num ≢ 0 → rate ≡ carried_rate hidden l → s ≡ port t l.from → b ≡ slower rate s
+      → record { sender = l.from; rate = then_some b rate } ≡ limit t p
   unfolding lowers
-  some_lowered {l} {rate} {s} {b} sent d r e f =
+  limit_some {rate} {s} {b} d r e f =
       let rate_of : rate ≡ limit_rate t p = r ∙ ap (λ (x : Port). carried_rate x l) own ∙ ap (carried_rate (port t p)) sent in
       let slow : b ≡ slower (limit_rate t p) (port t (sender t p)) =
       f ∙ ap (λ (x : Port). slower x s) rate_of ∙ ap (slower (limit_rate t p)) (e ∙ ap (λ (x : Link). port t x.from) sent) in
-      rw (ne_eqb (port t p).num 0 (λ z. d (ap (λ (x : Port). x.num) own ∙ z)), ← slow)
-      (then_is b (record { sender = l.from; rate = rate }) ∙ ap (λ (r : Lowered). cond b (Some r) None) (λ i. record { sender = (sent i).from; rate = rate_of i }))
+      let lowered = then_is b rate ∙ ap (λ (x : Port). cond b (Some x) None) rate_of in
+      rw (ne_eqb (port t p).num 0 (λ z. d (ap (λ (x : Port). x.num) own ∙ z)), ← slow) (λ i. record { sender = (sent i).from; rate = lowered i })

@@ -1,5 +1,5 @@
 -- What follows from a port that can be hidden: the new connections, the lowered rate, and the table without the port.
-use Rattle.std.specs.Prelude.{ℕ, ◌*◌, ◌≤◌, ◌<◌, ◌≡◌, Option, length, get_or}
+use Rattle.std.specs.Prelude.{ℕ, ◌*◌, ◌≤◌, ◌<◌, ◌≡◌, length, get_or}
 use Rattle.std.proofs.Common.{refl, sym, ap, ◌∙◌, arith}
 use mathlib.Core.List.{List}
 use Rattle.specification.specs.Table.{Table, most_links, most_ports, link_count, no_link, link}
@@ -9,10 +9,10 @@ use Rattle.specification.specs.declared.Link.{Link}
 use Rattle.table.specs.WellFormed.{LinkFits}
 use Rattle.encoding.specs.EncodingLaws.{links_most}
 use Rattle.table.specs.Held.{table_in}
-use Rattle.hidden.specs.declared.rate.Lowered.{Lowered}
+use Rattle.hidden.specs.declared.rate.Limit.{Limit}
 use Rattle.hidden.specs.declared.sides.Sides.{Sides}
 use Rattle.hidden.specs.Picked.{numbers_count, numbers_at}
-use Rattle.hidden.specs.Limits.{lowered}
+use Rattle.hidden.specs.Limits.{limit}
 use Rattle.hidden.specs.ViaParts.{product_most}
 use Rattle.hidden.specs.Made.{made_count, PairNumbers, pair_numbers}
 use Rattle.hidden.specs.Without.{each_fits, some_sender}
@@ -20,8 +20,8 @@ use Rattle.hidden.specs.Without.{each_fits, some_sender}
 abbrev pub made_in : Sides → List Link
 made_in s = made_links (table_in s.table.now) s.port
 
-abbrev pub lowered_in : Sides → Option Lowered
-lowered_in s = lowered (table_in s.table.now) s.port
+abbrev pub limit_in : Sides → Limit
+limit_in s = limit (table_in s.table.now) s.port
 
 abbrev pub table_after : Sides → Table
 table_after s = hidden_table (table_in s.table.now) s.port

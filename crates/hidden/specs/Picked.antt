@@ -38,11 +38,11 @@ pub record NumbersOf (test : Link → Bool) (ls : List Link) (numbers : List ℕ
   pub few : length numbers ≤ length ls
   pub are : picked ls numbers ≡ keep test ls
 
-picked_length : (ls : List Link) (numbers : List ℕ) → length (picked ls numbers) ≡ length numbers
+pub picked_length : (ls : List Link) (numbers : List ℕ) → length (picked ls numbers) ≡ length numbers
 unfolding picked
 picked_length ls numbers = length-map numbers (λ k. get_or ls k no_link)
 
-picked_at : (ls : List Link) (numbers : List ℕ) (i : ℕ) → i < length numbers → get_or (picked ls numbers) i no_link ≡ get_or ls (get_or numbers i 0) no_link
+pub picked_at : (ls : List Link) (numbers : List ℕ) (i : ℕ) → i < length numbers → get_or (picked ls numbers) i no_link ≡ get_or ls (get_or numbers i 0) no_link
 unfolding picked
 picked_at ls [] i h = absurd (omega arith)
 picked_at ls (x ∷ xs) zero h = refl

@@ -23,8 +23,8 @@ use Rattle.hiding_laws.specs.ListLaws.{At, made_at}
 use Rattle.hiding_laws.specs.PortLaws.{lowered_sender, lowered_other}
 use Rattle.hiding_laws.specs.HiddenFits.{via_fits}
 use Rattle.hiding_laws.specs.IsHidden.{into_number, from_number, apart_number, count, port_after_lem, sender_port}
-use Rattle.hidden.specs.declared.rate.Lowered.{Lowered}
-use Rattle.hidden.specs.Limits.{lowered}
+use Rattle.hidden.specs.declared.rate.Limit.{Limit}
+use Rattle.hidden.specs.Limits.{limit}
 use Rattle.hidden.specs.Sizes.{bytes_append}
 use Rattle.hidden.specs.Made.{made_from, map_at}
 
@@ -104,7 +104,19 @@ made_size (x ∷ xs) ys =
       made_size xs ys,
     )
 
-pub same_some : {l m : Lowered} → Some l ≡ Some m → l ≡ m
+-- new numbers are no larger
+pub renumbered_fits : {n : ℕ} (p : ℕ) (l : Link) → LinkFits n l → LinkFits n (renumbered p l)
+unfolding new_number
+renumbered_fits {n} p l f = between_fits (new_number p l.from) (new_number p l.to) f (below l.from f.from) (below l.to f.to)
+  where
+    small : (b : Bool) (q : ℕ) → q < n → cond b (q - 1) q < n
+    small true q h = omega arith
+    small false q h = h
+
+    below : (q : ℕ) → q < n → new_number p q < n
+    below q h = small (ltb p q) q h
+
+pub same_some : {r s : Port} → Some r ≡ Some s → r ≡ s
 same_some e = cc
 
 module _ (t : Table) (p : ℕ) (formed : WellFormed t) (can : cannot_hide t p ≡ false) where
@@ -147,22 +159,10 @@ module _ (t : Table) (p : ℕ) (formed : WellFormed t) (can : cannot_hide t p �
     fits_apart a =
         let n = apart_number t p formed can a in subst (LinkFits most_ports) n.is (each_fits t formed n.k n.holds.a_link.below)
 
-    -- new numbers are no larger
-    renumbered_fits : (l : Link) → LinkFits most_ports l → LinkFits most_ports (renumbered p l)
-    unfolding new_number
-    renumbered_fits l f = between_fits (new_number p l.from) (new_number p l.to) f (below l.from f.from) (below l.to f.to)
-      where
-        small : (b : Bool) (q : ℕ) → q < most_ports → cond b (q - 1) q < most_ports
-        small true q h = omega arith
-        small false q h = h
-
-        below : (q : ℕ) → q < most_ports → new_number p q < most_ports
-        below q h = small (ltb p q) q h
-
     pub after_fits : (k : ℕ) → k < length (hidden_table t p).links → LinkFits most_ports (get_or (hidden_table t p).links k no_link)
     after_fits k h =
         rw (← after_at t p {k = k} h refl refl)
-        (renumbered_fits (get_or (links_after t p) k no_link)
+        (renumbered_fits p (get_or (links_after t p) k no_link)
         (⊎_elim
         (λ (l : k < length (links_apart t p)).
         rw (← kept_at t p l refl) (fits_apart (record { place = k; below = l; is = refl })))
@@ -179,21 +179,21 @@ module _ (t : Table) (p : ℕ) (formed : WellFormed t) (can : cannot_hide t p �
     old_port : get_or (lowered_ports t p) old no_port ≡ get_or (hidden_table t p).ports q no_port
     old_port = ap (λ (n : ℕ). get_or (lowered_ports t p) n no_port) is ∙ sym (port_after_lem t p formed can q)
 
-    pub port_lowered : {l : Lowered} → Some l ≡ lowered t p → l.sender ≡ old → l.rate ≡ get_or (hidden_table t p).ports q no_port
-    port_lowered {l} e s = by (lowers t p) refl e ∙ old_port
-      where
-        by : (b : Bool) → lowers t p ≡ b → Some l ≡ cond b (Some (record { sender = sender t p; rate = limit_rate t p })) None
-            → l.rate ≡ get_or (lowered_ports t p) old no_port
-        by true f g =
-            let sent : l.sender ≡ sender t p = cc in
-            let rate : l.rate ≡ limit_rate t p = cc in
-            rate ∙ sym (lowered_sender t p true f (sender_port t p formed can)) ∙ ap (λ (n : ℕ). get_or (lowered_ports t p) n no_port) (sym sent ∙ s)
-        by false f g = absurd cc
+    module _ {l : Limit} {r : Port} (is_limit : l ≡ limit t p) where
+      pub port_lowered : Some r ≡ l.rate → l.sender ≡ old → r ≡ get_or (hidden_table t p).ports q no_port
+      port_lowered e s = by (lowers t p) refl (e ∙ ap (λ (x : Limit). x.rate) is_limit) ∙ old_port
+        where
+          by : (b : Bool) → lowers t p ≡ b → Some r ≡ cond b (Some (limit_rate t p)) None → r ≡ get_or (lowered_ports t p) old no_port
+          by true f g =
+              same_some g
+              ∙ sym (lowered_sender t p true f (sender_port t p formed can))
+              ∙ ap (λ (n : ℕ). get_or (lowered_ports t p) n no_port) (sym (ap (λ (x : Limit). x.sender) is_limit) ∙ s)
+          by false f g = absurd cc
 
-    pub port_same : {r : Port} → ((l : Lowered) → Some l ≡ lowered t p → l.sender ≢ old) → r ≡ port t old → r ≡ get_or (hidden_table t p).ports q no_port
-    port_same {r} d e = e ∙ by (lowers t p) refl (ℕ_discrete old (sender t p)) ∙ old_port
-      where
-        by : (b : Bool) → lowers t p ≡ b → Dec (old ≡ sender t p) → port t old ≡ get_or (lowered_ports t p) old no_port
-        by b f (no n) = sym (lowered_other t p old n)
-        by true f (yes s) = absurd (d (record { sender = sender t p; rate = limit_rate t p }) (rw f refl) (sym s))
-        by false f (yes s) = rw (s, lowered_sender t p false f (sender_port t p formed can))
+      pub port_same : ((s : Port) → Some s ≡ l.rate → l.sender ≢ old) → r ≡ port t old → r ≡ get_or (hidden_table t p).ports q no_port
+      port_same d e = e ∙ by (lowers t p) refl (ℕ_discrete old (sender t p)) ∙ old_port
+        where
+          by : (b : Bool) → lowers t p ≡ b → Dec (old ≡ sender t p) → port t old ≡ get_or (lowered_ports t p) old no_port
+          by b f (no n) = sym (lowered_other t p old n)
+          by true f (yes s) = absurd (d (limit_rate t p) (sym (ap (λ (x : Limit). x.rate) is_limit ∙ rw f refl)) (ap (λ (x : Limit). x.sender) is_limit ∙ sym s))
+          by false f (yes s) = rw (s, lowered_sender t p false f (sender_port t p formed can))

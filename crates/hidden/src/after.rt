@@ -6,11 +6,11 @@ ghost use Rattle.specification.specs.Encoding.{encode_ports, encode_links};
 ghost use Rattle.specification.specs.Hiding.{new_number, old_number, renumbered, value_leaves};
 ghost use Rattle.table.specs.Held.{table_in};
 ghost use Rattle.hidden.specs.ViaParts.{made_of};
-ghost use Rattle.hidden.specs.OfSides.{lowered_in, table_after};
+ghost use Rattle.hidden.specs.OfSides.{limit_in, table_after};
 ghost use Rattle.hidden.specs.Without.{CanWrite};
 ghost use Rattle.hidden.specs.HiddenIn.{HiddenIn, outcome};
 
-use crate::rate::Lowered;
+use crate::rate::Limit;
 use crate::sides::Sides;
 use crate::via::Made;
 use crate::{rate, via};
@@ -90,45 +90,45 @@ impl<'a> Sides<'a> {
         at
     }
 
-    // Port q of the table without the port. The lowered rate is worked out once and passed, so what it is is a clause.
-    fn port_after(&self, lowered: Option<Lowered>, q: usize) -> Port
-        requires lowered_is { lowered ≡ lowered_in self.now }
+    // Port q of the table without the port. The limit is worked out once and passed, so what it is is a clause.
+    fn port_after(&self, limit: Limit, q: usize) -> Port
+        requires limit_is { limit ≡ limit_in self.now }
         requires q_in_bounds { q + 1 < port_count (table_in self.now.table.now) }
         ensures { result ≡ get_or (table_after self.now).ports q no_port }
     {
         let old = old_number(q, self.port);
-        match lowered {
-            Some(l) if l.sender == old => l.rate,
+        match limit.rate {
+            Some(rate) if limit.sender == old => rate,
             _ => self.table.port(old),
         }
     }
 
-    fn write_ports(&self, lowered: Option<Lowered>, out: &mut [u8]) -> usize
-        requires lowered_is { lowered ≡ lowered_in self.now }
+    fn write_ports(&self, limit: Limit, out: &mut [u8]) -> usize
+        requires limit_is { limit ≡ limit_in self.now }
         requires room { length (encode_ports (table_after self.now).ports) ≤ length out.old }
         ensures { Written (encode_ports (table_after self.now).ports) out.old out.new result }
     {
         let mut at = 0;
         for q in 0..self.table.port_count() - 1 {
-            at += record::write_port(&mut out[at..], self.port_after(lowered, q));
+            at += record::write_port(&mut out[at..], self.port_after(limit, q));
         }
         at
     }
 
     // 19: the lowered rate or a new connection leaves its range.
-    fn value_leaves(&self, lowered: Option<Lowered>) -> bool
-        requires { lowered ≡ lowered_in self.now }
+    fn value_leaves(&self, limit: Limit) -> bool
+        requires { limit ≡ limit_in self.now }
         ensures { result ≡ value_leaves (table_in self.now.table.now) self.now.port }
     {
-        lowered.is_some_and(|l| l.leaves_range()) || via::any_leaves(self)
+        limit.rate.is_some_and(rate::leaves_range) || via::any_leaves(self)
     }
 
     // 19, 7 and 16, or how many bytes the table took.
     pub fn write(&self, out: &mut [u8]) -> Result<usize, Refusal>
         ensures { HiddenIn (table_in self.now.table.now) self.now.port out.old out.new (outcome result) }
     {
-        let lowered = rate::limit_of(self);
-        if self.value_leaves(lowered) {
+        let limit = rate::limit_of(self);
+        if self.value_leaves(limit) {
             return Err(Refusal::Range);
         }
         if limits::LINKS < self.link_count() {
@@ -137,7 +137,7 @@ impl<'a> Sides<'a> {
         if out.len() < self.size() {
             return Err(Refusal::ShortTable);
         }
-        let at = self.write_ports(lowered, out);
+        let at = self.write_ports(limit, out);
         Ok(at + self.write_links(&mut out[at..]))
     }
 }

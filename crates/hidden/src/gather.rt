@@ -5,7 +5,6 @@ ghost use Rattle.specification.specs.declared.Link.{Link};
 ghost use Rattle.table.specs.Held.{table_in};
 ghost use Rattle.hidden.specs.Picked.{NumbersOf, Decides};
 
-use arrayvec::ArrayVec;
 use specification::Link;
 use table::Table;
 
@@ -22,18 +21,23 @@ fn bars_port(l: Link, p: usize) -> bool
     touches_port(l, p) && (l.is_buffer() || l.from == l.to)
 }
 
-// The numbers of the links that pass, in their order.
-pub fn numbers_of<F: Fn(Link) -> bool>(table: &Table, passes: F) -> ArrayVec<u8, 256>
+// The numbers of the links that pass, in their order, at the front of the room.
+pub fn numbers_of<'a, F: Fn(Link) -> bool>(
+    table: &Table,
+    passes: F,
+    room: &'a mut [u8; 256],
+) -> &'a [u8]
     requires { F.IsAlwaysCallable passes }
-    ensures { (test : Link → Bool) → Decides (F.post passes) test (table_in table.now).links → NumbersOf test (table_in table.now).links result.items }
+    ensures { (test : Link → Bool) → Decides (F.post passes) test (table_in table.now).links → NumbersOf test (table_in table.now).links result.now }
 {
-    let mut numbers = ArrayVec::new();
+    let mut count = 0;
     for k in 0..table.link_count() {
         if passes(table.link(k)) {
-            numbers.push(k as u8);
+            room[count] = k as u8;
+            count += 1;
         }
     }
-    numbers
+    &room[..count]
 }
 
 // 18: no such port, a link that bars, or none into it or out of it.

@@ -38,15 +38,15 @@ fn write_hidden(table: &Table, p: usize, out: &mut [u8]) -> Result<usize, Refusa
     if gather::cannot_hide(table, p) {
         return Err(Refusal::Held);
     }
-    let into = gather::numbers_of(table, |l| l.to == p);
-    let from = gather::numbers_of(table, |l| l.from == p);
-    let apart = gather::numbers_of(table, |l| !gather::touches_port(l, p));
+    let mut into = [0u8; 256];
+    let mut from = [0u8; 256];
+    let mut apart = [0u8; 256];
     let sides = Sides {
         table,
         port: p,
-        into: &into,
-        from: &from,
-        apart: &apart,
+        into: gather::numbers_of(table, |l| l.to == p, &mut into),
+        from: gather::numbers_of(table, |l| l.from == p, &mut from),
+        apart: gather::numbers_of(table, |l| !gather::touches_port(l, p), &mut apart),
     };
     sides.write(out)
 }

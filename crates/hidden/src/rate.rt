@@ -4,26 +4,24 @@ ghost use Rattle.specification.specs.Table.{most_part};
 ghost use Rattle.specification.specs.Hiding.{carried_rate, slower, rate_leaves, sender_link};
 ghost use Rattle.table.specs.WellFormed.{PartFits, PortFits};
 ghost use Rattle.table.specs.Held.{table_in};
-ghost use Rattle.hidden.specs.OfSides.{lowered_in};
+ghost use Rattle.hidden.specs.OfSides.{limit_in};
 
 use crate::sides::Sides;
 use fraction::Fraction;
 use specification::{Link, Port, limits};
 
-// A sender whose rate is lowered, and the rate that it then has.
+// The sender that a hidden port's rate may lower, and the rate that it then has, none where its own stays.
 #[derive(Clone, Copy)]
-pub struct Lowered {
+pub struct Limit {
     pub sender: usize,
-    pub rate: Port,
+    pub rate: Option<Port>,
 }
 
-impl Lowered {
-    // 19 of the lowered rate.
-    pub fn leaves_range(self) -> bool
-        ensures { result ≡ rate_leaves self.rate }
-    {
-        limits::PART < self.rate.num || limits::PART < self.rate.den
-    }
+// 19 of the lowered rate.
+pub fn leaves_range(rate: Port) -> bool
+    ensures { result ≡ rate_leaves rate }
+{
+    limits::PART < rate.num || limits::PART < rate.den
 }
 
 // A rate divided by the ratio of a link, in lowest terms.
@@ -68,16 +66,20 @@ fn lowest_sender(sides: &Sides) -> Link
     lowest
 }
 
-// What hiding the port lowers: nothing where it has no rate, or its sender is no faster.
-pub fn limit_of(sides: &Sides) -> Option<Lowered>
-    ensures { result ≡ lowered_in sides.now }
+// The lowest sender, and the rate that it is lowered to: none where the port has no rate, or the sender is no faster.
+pub fn limit_of(sides: &Sides) -> Limit
+    ensures { result ≡ limit_in sides.now }
 {
+    let l = lowest_sender(sides);
+    let sender = l.from;
     let hidden = sides.table.port(sides.port);
     if hidden.num == 0 {
-        return None;
+        return Limit { sender, rate: None };
     }
-    let l = lowest_sender(sides);
     let rate = carried_rate(hidden, l);
-    let sender = l.from;
-    is_slower(rate, sides.table.port(sender)).then_some(Lowered { sender, rate })
+    let lowers = is_slower(rate, sides.table.port(sender));
+    Limit {
+        sender,
+        rate: lowers.then_some(rate),
+    }
 }

@@ -7,12 +7,12 @@ use Rattle.specification.specs.Reading.{read_table, start}
 use Rattle.specification.specs.Answers.{Answer, refused, number, Right, least_room, AnswerOf, answer_place}
 use Rattle.specification.specs.Hiding.{hide_into, HideReturned}
 use Rattle.specification.specs.declared.Outcome.{Outcome}
-use Rattle.refusals.specs.declared.Fault.{Fault}
 use Rattle.refusals.specs.Faults.{outcome_of}
 use Rattle.records.specs.WrittenLaws.{written_none}
 use Rattle.table.specs.declared.reading.Counts.{Counts}
+use Rattle.table.specs.declared.reading.ReadFault.{ReadFault}
 use Rattle.table.specs.Filled.{Filled, front_of}
-use Rattle.table.specs.FilledLaws.{ports_held, links_held, table_read, formed_read}
+use Rattle.table.specs.FilledLaws.{table_read, formed_read}
 use Rattle.table.specs.FaultLaws.{table_no_place}
 use Rattle.table.specs.WellFormed.{WellFormed}
 use Rattle.hidden.specs.HiddenIn.{HiddenIn}
@@ -48,7 +48,7 @@ OwnRead s ports links (Err r) = OwnRefused s r
 
 module _ (s : List ℕ) {ports links ports' links' : List ℕ} where
   -- a fault of 2 to 12
-  pub own_faulty : {f : Fault} → Filled start (read_table s) ports links ports' links' (Err f) → OwnRefused s (outcome_of f)
+  pub own_faulty : {f : ReadFault} → Filled start (read_table s) ports links ports' links' (Err f) → OwnRefused s (outcome_of f.fault)
   unfolding answer_place
   own_faulty {f} r = record {
     answer = refused (read_table s).number;
@@ -88,8 +88,8 @@ module _ (s : List ℕ) {ports links ports' links' : List ℕ} where
       answer = o.answer;
       right = own_right;
       none = sym o.is ∙ z;
-      port_room = omega (arith, ports_held f);
-      link_room = omega (arith, links_held f);
+      port_room = omega (arith, f.port_room);
+      link_room = omega (arith, f.link_room);
       formed = formed_read s f;
       is = table_read f;
     }

@@ -8,15 +8,15 @@ use Rattle.table.specs.Filled.{Room, Filled, Front}
 use Rattle.joins.specs.Refusals.{input_of}
 use Rattle.specification.specs.Reading.{read_on, start}
 use Rattle.specification.specs.declared.Before.{Before}
-use Rattle.refusals.specs.declared.Fault.{Fault}
 use Rattle.table.specs.declared.reading.Counts.{Counts}
+use Rattle.table.specs.declared.reading.ReadFault.{ReadFault}
 use Rattle.joins.specs.declared.inputs.Input.{Input}
 use Rattle.joins.specs.declared.inputs.InputFault.{InputFault}
 
 -- the same, with no input named
-abbrev pub unnamed : Result Counts InputFault → Result Counts Fault
+abbrev pub unnamed : Result Counts InputFault → Result Counts ReadFault
 unnamed (Ok c) = Ok c
-unnamed (Err f) = Err f.fault
+unnamed (Err f) = Err (record { fault = f.fault; counts = f.counts })
 
 -- one input behind what was read before it; the input is named where it has a fault
 pub record InputRead (s : List ℕ) (input : Input) (b : Before) (ports links ports' links' : List ℕ) (r : Result Counts InputFault) : Type 0 where
@@ -41,6 +41,12 @@ pub record JoinFault (first second added : List ℕ) (f : InputFault) : Type 0 w
   pub is : join_of first second added ≡ join_refusal f
   pub some : (join_of first second added).number ≢ 0
 
+-- it comes first, and the counts before it fit the slices
+pub record FaultRead (first second added ports links : List ℕ) (f : InputFault) : Type 0 where
+  pub refused : JoinFault first second added f
+  pub port_room : 2 * f.counts.ports ≤ length ports
+  pub link_room : 10 * f.counts.links ≤ length links
+
 -- both tables at the front of the slices, with the room that is left
 pub record BothRead (first second ports links ports' links' : List ℕ) (c : Counts) : Type 0 where
   pub first_read : (read_first first).number ≡ 0
@@ -53,7 +59,7 @@ pub record BothRead (first second ports links ports' links' : List ℕ) (c : Cou
 -- both tables, or the first fault, which is that of every join of them
 abbrev pub TablesRead : (first second ports links ports' links' : List ℕ) → Result Counts InputFault → Type 0
 TablesRead first second ports links ports' links' (Ok c) = BothRead first second ports links ports' links' c
-TablesRead first second ports links ports' links' (Err f) = (added : List ℕ) → JoinFault first second added f
+TablesRead first second ports links ports' links' (Err f) = (added : List ℕ) → FaultRead first second added ports' links' f
 
 -- the joined table at the front of the slices
 pub record JoinedRead (first second added ports links : List ℕ) (c : Counts) : Type 0 where
@@ -65,4 +71,4 @@ pub record JoinedRead (first second added ports links : List ℕ) (c : Counts) :
 -- all inputs: the joined table, or the first fault
 abbrev pub InputsRead : (first second added ports links : List ℕ) → Result Counts InputFault → Type 0
 InputsRead first second added ports links (Ok c) = JoinedRead first second added ports links c
-InputsRead first second added ports links (Err f) = JoinFault first second added f
+InputsRead first second added ports links (Err f) = FaultRead first second added ports links f

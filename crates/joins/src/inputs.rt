@@ -18,11 +18,12 @@ pub enum Input {
     Added = 3,
 }
 
-// A fault, its place within the input that has it.
+// A fault, its place within the input that has it, and how many ports and links of all inputs were read before it.
 #[derive(Clone, Copy)]
 pub struct InputFault {
     pub fault: Fault,
     pub input: Input,
+    pub counts: Counts,
 }
 
 // What a join and a preview return of it.
@@ -50,7 +51,11 @@ fn read_input(
     requires { Room (length s.now) before (length ports.old) (length links.old) }
     ensures { InputRead s.now input before ports.old links.old ports.new links.new result }
 {
-    reading::read_on(s, before, ports, links).map_err(|fault| InputFault { fault, input })
+    reading::read_on(s, before, ports, links).map_err(|read| InputFault {
+        fault: read.fault,
+        input,
+        counts: read.counts,
+    })
 }
 
 // The two tables.

@@ -1,7 +1,7 @@
 -- What the search for the least period of a component ends with.
 use Rattle.std.specs.Prelude.{ℕ, suc, ◌*◌, ◌-◌, ◌≤◌, ◌<◌, ◌≡◌, ◌≢◌, List, length, get_or, Option, Some, None}
 use Rattle.fraction.specs.declared.Fraction.{Fraction}
-use Rattle.specification.specs.Periods.{LeastStarts, Period, ZeroFloor, NoLeast}
+use Rattle.specification.specs.Periods.{Graph, LeastStarts, RateLimit, CycleLimit, Period, ZeroFloor, NoLeast}
 use Rattle.specification.specs.Answers.{Blocked, rate, cycle, zero_floor}
 use Rattle.specification.specs.Answers.{Floor as ShownFloor}
 use Rattle.period.specs.Component.{graph_of, most_rate, just_above}
@@ -19,6 +19,12 @@ use Rattle.period.specs.declared.search.SearchEnd.TheVariants.{Least, NoLeast as
 -- the numbers of a cycle's edges, in walking order
 abbrev pub cycle_of : Cycle → List ℕ
 cycle_of c = edges_of c.steps c.part
+
+-- the limit that a floor is: the rate limit of a port, or the lower limit of the cycle
+abbrev pub IsLimit : Graph → Floor → (a b : ℕ) → Type 0
+IsLimit g (Rate p) a b = RateLimit g p a b
+IsLimit g (Lower c) a b = CycleLimit g (cycle_of c) a b
+IsLimit g Zero a b = ⊥
 
 -- the floor in the words of the answers
 abbrev pub floor_in : Floor → ShownFloor
@@ -50,26 +56,27 @@ abbrev pub most_start : ℕ
 most_start = 64 * most_cost
 
 module _ (ports limits edges : List ℕ) where
-  -- the least period, and the least starts, which the last round left as they were
-  pub record FoundPeriod (period_is : Fraction) (rounds : ℕ) (starts' : List ℕ) : Type 0 where
+  -- the least period, which limit it is, and the least starts, which the last round left as they were
+  pub record FoundPeriod (period_is : Fraction) (floor : Floor) (rounds : ℕ) (starts' : List ℕ) : Type 0 where
     pub period : Period (graph_of ports limits edges) period_is.num period_is.den
+    pub shown : IsLimit (graph_of ports limits edges) floor period_is.num period_is.den
     pub least : LeastStarts (graph_of ports limits edges) period_is.num period_is.den (λ p. get_or starts' p 0)
     pub run : RoundsRun (prices_of edges period_is.num period_is.den) starts' (length ports) rounds
     pub small : SmallPeriod period_is.num period_is.den
     pub small_starts : (p : ℕ) → get_or starts' p 0 ≤ most_start
 
   -- periods but no least one, since no port has a rate and the rounds stop just above zero
-  pub record FoundNoLeast (work' : List ℕ) : Type 0 where
+  pub record FoundNoLeast (rounds : ℕ) (starts' : List ℕ) : Type 0 where
     pub no_least_lem : NoLeast (graph_of ports limits edges)
     pub is_zero : ZeroFloor (graph_of ports limits edges)
-    pub rounds : ℕ
-    pub run : RoundsRun (prices_of edges 1 just_above) (row work' (rounds - 1)) (length ports) rounds
+    pub run : RoundsRun (prices_of edges 1 just_above) starts' (length ports) rounds
 
-  -- a floor, and a cycle that blocks every period above it
-  pub record FoundBlock (floor : Floor) (block : Cycle) : Type 0 where
+  -- a floor, and a cycle that blocks every period above it: as many rounds as there are ports were run
+  pub record FoundBlock (floor : Floor) (block : Cycle) (rounds : ℕ) : Type 0 where
     pub is_blocked : Blocked (graph_of ports limits edges) (floor_in floor) (cycle_of block)
+    pub all_rounds : rounds ≡ length ports
 
   abbrev pub SearchResult : (work' : List ℕ) → SearchEnd → Type 0
-  SearchResult work' (Least period rounds) = FoundPeriod period rounds (row work' (rounds - 1))
-  SearchResult work' EndsWithout = FoundNoLeast work'
-  SearchResult work' (EndsBlocked floor block) = FoundBlock floor block
+  SearchResult work' (Least period floor rounds) = FoundPeriod period floor rounds (row work' (rounds - 1))
+  SearchResult work' (EndsWithout rounds) = FoundNoLeast rounds (row work' (rounds - 1))
+  SearchResult work' (EndsBlocked floor block rounds) = FoundBlock floor block rounds

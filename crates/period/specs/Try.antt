@@ -5,7 +5,7 @@ use Rattle.rounds.specs.Starts.{Stopped}
 use Rattle.rounds.specs.Back.{Enclosed, FoundCycle}
 use Rattle.period.specs.Component.{graph_of, SmallEdges, SmallTried}
 use Rattle.period.specs.Prices.{prices_of}
-use Rattle.period.specs.declared.cycle.Cycle.{Cycle}
+use Rattle.rounds.specs.declared.back.Part.{Part}
 
 -- m edges between n ports that can be priced at a/b, and room for the rounds and the prices
 pub record Trying (edges : List ℕ) (m a b n : ℕ) (work : List ℕ) : Type 0 where
@@ -19,6 +19,6 @@ pub record Trying (edges : List ℕ) (m a b n : ℕ) (work : List ℕ) : Type 0 
   pub work_room : 64 * n + 64 + 4 * m ≤ length work
 
 -- the rounds stopped, or there is a cycle that gains more than it loses
-abbrev pub TryResult : (cs : List ℕ) (n : ℕ) (work : List ℕ) → Result ℕ Cycle → Type 0
-TryResult cs n work (Ok r) = Stopped cs work n r
-TryResult cs n work (Err c) = FoundCycle cs c.steps c.part
+abbrev pub TryResult : (cs : List ℕ) (n : ℕ) (work steps : List ℕ) → Result ℕ Part → Type 0
+TryResult cs n work steps (Ok r) = Stopped cs work n r
+TryResult cs n work steps (Err part) = FoundCycle cs steps part

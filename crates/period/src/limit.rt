@@ -22,15 +22,21 @@ pub fn greatest_limit(ports: &[u32], weights: &[u64; 64], members: &[u64]) -> Op
     requires limited { Limited members.now (limits_of (ports_of ports.now) weights.now) }
     ensures { GreatestLimit members.now (limits_of (ports_of ports.now) weights.now) result }
 {
-    let mut greatest: Option<Limit> = None;
+    // No Option until the end: it would be looked into for every port. Until a port has a rate the value is zero.
+    let mut greatest = Limit {
+        port: 0,
+        value: Fraction::ZERO,
+    };
     for &port in members {
         let value = limit_of(ports, weights, port);
-        let least = greatest.map_or(Fraction::ZERO, |limit| limit.value);
-        if least.less(value) {
-            greatest = Some(Limit { port, value });
+        if greatest.value.less(value) {
+            greatest = Limit { port, value };
         }
     }
-    greatest
+    if greatest.value.num == 0 {
+        return None;
+    }
+    Some(greatest)
 }
 
 // The rate limit of a port: 1 divided by rate times weight; zero without a rate. An Option would be no plainer: zero is the least that is compared.

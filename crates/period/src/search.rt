@@ -12,6 +12,7 @@ use crate::cycle::Cycle;
 use crate::limit::Limit;
 use crate::{price, sums};
 use fraction::Fraction;
+use rounds::back::Part;
 use rounds::{back, starts};
 
 // What stands under every period: the rate limit of a port; the lower limit of a cycle; or zero.
@@ -22,15 +23,25 @@ pub enum Floor {
     Zero,
 }
 
-// How a search ends.
+// How a search ends, and how many rounds were run at the last a/b.
 #[derive(Clone, Copy)]
 pub enum SearchEnd {
-    // With the least period, and so many rounds run at it.
-    Least { period: Fraction, rounds: usize },
+    // With the least period, which is the limit that the floor has.
+    Least {
+        period: Fraction,
+        floor: Floor,
+        rounds: usize,
+    },
     // With periods but no least.
-    NoLeast,
+    NoLeast {
+        rounds: usize,
+    },
     // With a cycle that blocks every period above the floor.
-    Blocked { floor: Floor, block: Cycle },
+    Blocked {
+        floor: Floor,
+        block: Cycle,
+        rounds: usize,
+    },
 }
 
 // Just above zero: it stands for the periods there, and is in no answer.
@@ -46,11 +57,16 @@ fn first_tried(greatest: Option<Limit>) -> Fraction
     greatest.map_or(JUST_ABOVE_ZERO, |limit| limit.value)
 }
 
-// The rounds that changed something at one a/b, or a cycle that is positive there. The rows of starts come first in work, and behind row n
-// the costs.
-fn try_at(graph: &ConstraintGraph, period: Fraction, work: &mut [u64]) -> Result<usize, Cycle>
+// The rounds that changed something at one a/b, or the part of the steps that is a cycle positive there. The rows of starts come first in
+// work, and behind row n the costs. The steps are lent: made here, they would be copied for each a/b.
+fn try_at(
+    graph: &ConstraintGraph,
+    period: Fraction,
+    work: &mut [u64],
+    steps: &mut [u64; 64],
+) -> Result<usize, Part>
     requires { Trying (edges_in graph.now) (length graph.now.numbers.now) period.num period.den (length graph.now.members.now) work.old }
-    ensures try_result { TryResult (prices_of (edges_in graph.now) period.num period.den) (length graph.now.members.now) work.new result }
+    ensures try_result { TryResult (prices_of (edges_in graph.now) period.num period.den) (length graph.now.members.now) work.new steps.new result }
     ensures work_len_unchanged { length work.new ≡ length work.old }
 {
     let n = graph.members.len();
@@ -63,9 +79,7 @@ fn try_at(graph: &ConstraintGraph, period: Fraction, work: &mut [u64]) -> Result
             let end = base + 4 * count;
             // The rows and the costs are read together, so both are parts of one shared slice.
             let rows = &work[..];
-            let mut steps = [0u64; 64];
-            let part = back::cycle_back(rows, n, &rows[base..end], unsettled.port, &mut steps);
-            Err(Cycle { steps, part })
+            Err(back::cycle_back(rows, n, &rows[base..end], unsettled.port, steps))
         }
     }
 }
@@ -84,23 +98,28 @@ pub fn least_period(graph: &ConstraintGraph, greatest: Option<Limit>, work: &mut
         Some(limit) => Floor::Rate(limit.port),
         None => Floor::Zero,
     };
+    let mut steps = [0u64; 64];
     loop {
-        match try_at(graph, period, work) {
+        match try_at(graph, period, work, &mut steps) {
             Ok(changed) => {
+                let rounds = changed + 1;
                 return match floor {
-                    Floor::Zero => SearchEnd::NoLeast,
+                    Floor::Zero => SearchEnd::NoLeast { rounds },
                     _ => SearchEnd::Least {
                         period,
-                        rounds: changed + 1,
+                        floor,
+                        rounds,
                     },
                 };
             }
-            Err(cycle) => {
+            Err(part) => {
+                let cycle = Cycle { steps, part };
                 let sums = sums::sums_of(graph, cycle.edges());
                 if sums.events.1 <= sums.events.0 {
                     return SearchEnd::Blocked {
                         floor,
                         block: cycle,
+                        rounds: graph.members.len(),
                     };
                 }
                 period = Fraction::reduced(

@@ -1,3 +1,2 @@
 -- What belongs to no one function.
-mod Stored
 mod Cases

@@ -9,6 +9,7 @@ use Rattle.specification.specs.declared.Before.{Before}
 use Rattle.refusals.specs.Numbers.{number_of}
 use Rattle.refusals.specs.declared.Fault.{Fault}
 use Rattle.table.specs.declared.reading.Counts.{Counts}
+use Rattle.table.specs.declared.reading.ReadFault.{ReadFault}
 
 -- the slices hold what stands before the input, and room for what so many bytes can hold: a port has 8 bytes, a link 16 or more
 pub record Room (bytes : ℕ) (b : Before) (ports links : ℕ) : Type 0 where
@@ -18,29 +19,37 @@ pub record Room (bytes : ℕ) (b : Before) (ports links : ℕ) : Type 0 where
   pub port_room : 2 * min most_ports (b.ports + bytes / 8) ≤ ports
   pub link_room : 10 * min most_links (b.links + bytes / 16) ≤ links
 
--- what is returned where there is no fault: how many ports and links the slices hold
-pub record Counted (b : Before) (r : Reading) (c : Counts) : Type 0 where
+-- where there is no fault, number and place are 0
+pub record Faultless (r : Reading) : Type 0 where
   pub number : r.number ≡ 0
   pub place : r.place ≡ 0
-  pub port_count_lem : c.ports ≡ b.ports + length r.table.ports
-  pub link_count_lem : c.links ≡ b.links + length r.table.links
 
--- and where there is one
+-- and where there is one, they are its own
 pub record FaultOf (r : Reading) (f : Fault) : Type 0 where
   pub number : r.number ≡ number_of f.refusal
   pub place : r.place ≡ f.place
   pub some : r.number ≢ 0
 
-abbrev pub Returned : Before → Reading → Result Counts Fault → Type 0
-Returned b r (Ok c) = Counted b r c
-Returned b r (Err f) = FaultOf r f
+abbrev pub Returned : Reading → Result Counts ReadFault → Type 0
+Returned r (Ok c) = Faultless r
+Returned r (Err f) = FaultOf r f.fault
+
+-- how many ports and links the slices hold, with a fault or without
+abbrev pub counts_of : Result Counts ReadFault → Counts
+counts_of (Ok c) = c
+counts_of (Err f) = f.counts
+
+abbrev pub counts_before : Before → Counts
+counts_before b = record { ports = b.ports; links = b.links }
 
 -- the numbers of what was read, up to the fault if there is one, stand behind what stood before, its links with their ends moved up; the rest
 -- of the slices is as it was
-pub record Filled (b : Before) (r : Reading) (ports links ports' links' : List ℕ) (c : Result Counts Fault) : Type 0 where
-  pub returned : Returned b r c
-  pub port_room : 2 * (b.ports + length r.table.ports) ≤ length ports
-  pub link_room : 10 * (b.links + length r.table.links) ≤ length links
+pub record Filled (b : Before) (r : Reading) (ports links ports' links' : List ℕ) (c : Result Counts ReadFault) : Type 0 where
+  pub returned : Returned r c
+  pub port_count_lem : (counts_of c).ports ≡ b.ports + length r.table.ports
+  pub link_count_lem : (counts_of c).links ≡ b.links + length r.table.links
+  pub port_room : 2 * (counts_of c).ports ≤ length ports
+  pub link_room : 10 * (counts_of c).links ≤ length links
   pub ports_are : ports' ≡ sets ports (2 * b.ports) (port_numbers r.table.ports)
   pub links_are : links' ≡ sets links (10 * b.links) (link_numbers (map (moved (b.ports - b.named)) r.table.links))
 

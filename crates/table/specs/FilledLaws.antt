@@ -1,5 +1,5 @@
 -- What a caller of the reader knows of the slices.
-use Rattle.std.specs.Prelude.{ℕ, ◌+◌, ◌-◌, ◌*◌, ◌≤◌, ◌≡◌, refl, List, [], ◌∷◌, ◌++◌, map, length, take, drop, Ok}
+use Rattle.std.specs.Prelude.{ℕ, ◌+◌, ◌-◌, ◌*◌, ◌≤◌, ◌≡◌, refl, List, [], ◌∷◌, ◌++◌, map, length, take, drop, Result, Ok}
 use Rattle.std.proofs.Common.{ap, ◌∙◌, zero-add, arith, length-append, length-take-le, take_at}
 use Rattle.std.proofs.lemmas.List.{length-map}
 use Rattle.std.proofs.lemmas.List.Edits.{sets, sets-eq}
@@ -9,12 +9,13 @@ use Rattle.table.specs.Slices.{port_numbers, link_numbers, table_of}
 use Rattle.table.specs.SliceLaws.{length_port_numbers, length_link_numbers, table_back}
 use Rattle.specification.specs.Reading.{Reading, start, read_table}
 use Rattle.table.specs.ReadingLaws.{well_formed}
-use Rattle.table.specs.Filled.{Filled, Front, front_of}
+use Rattle.table.specs.Filled.{counts_of, Filled, Front, front_of}
 use Rattle.specification.specs.Joining.{moved, behind}
 use Rattle.specification.specs.declared.Port.{Port}
 use Rattle.specification.specs.declared.Link.{Link}
 use Rattle.specification.specs.declared.Before.{Before}
 use Rattle.table.specs.declared.reading.Counts.{Counts}
+use Rattle.table.specs.declared.reading.ReadFault.{ReadFault}
 
 port_numbers_append : (ps qs : List Port) → port_numbers (ps ++ qs) ≡ port_numbers ps ++ port_numbers qs
 port_numbers_append [] qs = refl
@@ -42,33 +43,26 @@ front_none ports links = record { ports_are = refl; links_are = refl }
 pub front_table : {t : Table} {ports links : List ℕ} {p m : ℕ} → Front t ports links p m → table_of (take (2 * p) ports) (take (10 * m) links) ≡ t
 front_table {t} f = rw (f.ports_are, f.links_are) (table_back t)
 
-module _ {b : Before} {r : Reading} {ports links ports' links' : List ℕ} {c : Counts} (f : Filled b r ports links ports' links' (Ok c)) where
-  -- what is counted stands in the slices
-  pub ports_held : 2 * c.ports ≤ length ports
-  ports_held = omega (arith, f.returned.port_count_lem, f.port_room)
-
-  pub links_held : 10 * c.links ≤ length links
-  links_held = omega (arith, f.returned.link_count_lem, f.link_room)
-
+module _ {b : Before} {r : Reading} {ports links ports' links' : List ℕ} {c : Result Counts ReadFault} (f : Filled b r ports links ports' links' c) where
   -- a table at the front of the slices, and what was read behind it
   pub front_on : {t : Table} → Front t ports links b.ports b.links
-      → Front (behind t (b.ports - b.named) r.table) ports' links' c.ports c.links
+      → Front (behind t (b.ports - b.named) r.table) ports' links' (counts_of c).ports (counts_of c).links
   front_on {t} g =
       let ps = r.table.ports in
       let ls = map (moved (b.ports - b.named)) r.table.links in
       record {
         ports_are = rw (f.ports_are, port_numbers_append t.ports ps, ← g.ports_are) (
-            front_sets ports (port_numbers ps) (2 * b.ports) (2 * c.ports) (omega (arith, f.returned.port_count_lem, length_port_numbers ps)) ports_held);
+            front_sets ports (port_numbers ps) (2 * b.ports) (2 * (counts_of c).ports) (omega (arith, f.port_count_lem, length_port_numbers ps)) f.port_room);
         links_are = rw (f.links_are, link_numbers_append t.links ls, ← g.links_are) (
-            front_sets links (link_numbers ls) (10 * b.links) (10 * c.links)
-            (omega (arith, f.returned.link_count_lem, length_link_numbers ls, length-map r.table.links (moved (b.ports - b.named)))) links_held);
+            front_sets links (link_numbers ls) (10 * b.links) (10 * (counts_of c).links)
+            (omega (arith, f.link_count_lem, length_link_numbers ls, length-map r.table.links (moved (b.ports - b.named)))) f.link_room);
       }
 
-module _ {r : Reading} {ports links ports' links' : List ℕ} {c : Counts} (f : Filled start r ports links ports' links' (Ok c)) where
-  pub front_read : Front r.table ports' links' c.ports c.links
+module _ {r : Reading} {ports links ports' links' : List ℕ} {c : Result Counts ReadFault} (f : Filled start r ports links ports' links' c) where
+  pub front_read : Front r.table ports' links' (counts_of c).ports (counts_of c).links
   front_read = let g = front_on f (front_none ports links) in record { ports_are = g.ports_are; links_are = g.links_are ∙ ap link_numbers (moved_none r.table.links) }
 
-  pub table_read : front_of c ports' links' ≡ r.table
+  pub table_read : front_of (counts_of c) ports' links' ≡ r.table
   table_read = front_table front_read
 
 pub formed_read : (s : List ℕ) {ports links ports' links' : List ℕ} {c : Counts} → Filled start (read_table s) ports links ports' links' (Ok c)

@@ -49,7 +49,7 @@ pub fn link(links: &[u32], k: usize) -> Link
     read(links, k)
 }
 
-// Link k.
+// Link k. Its numbers are stored one by one, as a port's are.
 pub fn store(links: &mut [u32], k: usize, l: Link)
     requires k_in_bounds { 10 * k + 10 ≤ length links.old }
     requires link_fits { LinkFits 64 l }
@@ -58,17 +58,14 @@ pub fn store(links: &mut [u32], k: usize, l: Link)
     let at = WIDTH * k;
     let ticks = l.ticks;
     let events = l.events;
-    let numbers: [u32; WIDTH] = [
-        l.from as u32,
-        l.to as u32,
-        l.num as u32,
-        l.den as u32,
-        ticks.0 as u32,
-        ticks.1 as u32,
-        events.0 as u32,
-        events.1 as u32,
-        l.over,
-        l.kind,
-    ];
-    links[at..at + WIDTH].copy_from_slice(&numbers);
+    links[at] = l.from as u32;
+    links[at + 1] = l.to as u32;
+    links[at + 2] = l.num as u32;
+    links[at + 3] = l.den as u32;
+    links[at + 4] = ticks.0 as u32;
+    links[at + 5] = ticks.1 as u32;
+    links[at + 6] = events.0 as u32;
+    links[at + 7] = events.1 as u32;
+    links[at + 8] = l.over;
+    links[at + 9] = l.kind;
 }

@@ -35,13 +35,13 @@ pub fn port(ports: &[u32], p: usize) -> Port
     read(ports, p)
 }
 
-// Port p.
+// Port p. Its two numbers are stored one by one: copied from an array, they would be waited for.
 pub fn store(ports: &mut [u32], p: usize, port: Port)
     requires p_in_bounds { 2 * p + 2 ≤ length ports.old }
     requires port_fits { PortFits port }
     ensures { ports.new ≡ sets ports.old (2 * p) (port_numbers (port ∷ [])) }
 {
-    let numbers: [u32; WIDTH] = [port.num as u32, port.den as u32];
     let at = WIDTH * p;
-    ports[at..at + WIDTH].copy_from_slice(&numbers);
+    ports[at] = port.num as u32;
+    ports[at + 1] = port.den as u32;
 }

@@ -2,14 +2,15 @@
 ghost use Rattle.std.specs.Prelude.{◌≡◌, ◌+◌, ◌*◌, ◌≤◌, ◌<◌, length, take};
 ghost use Rattle.specification.specs.Reading.{with_port, with_link, read_on, start, read_table};
 ghost use Rattle.specification.specs.Joining.{moved};
-ghost use Rattle.table.specs.Filled.{Room, Filled, front_of};
+ghost use Rattle.refusals.specs.Faults.{outcome_of};
+ghost use Rattle.table.specs.Filled.{Room, counts_before, Filled, front_of};
 ghost use Rattle.table.specs.WellFormed.{WellFormed};
 ghost use Rattle.table.specs.Held.{table_in};
 
 use crate::record::Record;
 use crate::{Table, links, ports, record};
 use refusals::{Fault, Refusal};
-use specification::{Before, Link};
+use specification::{Before, Link, Outcome};
 
 // How many ports and links the slices hold: a join goes on behind them, so the slices are not cut as they are read.
 #[derive(Clone, Copy)]
@@ -41,6 +42,33 @@ impl Counts {
     {
         let (ports, links) = self.cut(ports, links);
         Table { ports, links }
+    }
+}
+
+// What stands before a record is what the slices hold.
+impl From<Before> for Counts {
+    ghost from_gives = { λ b c. c ≡ counts_before b };
+
+    fn from(b: Before) -> Counts {
+        Counts {
+            ports: b.ports,
+            links: b.links,
+        }
+    }
+}
+
+// A fault, and how many ports and links the slices hold, all of them read before it.
+#[derive(Clone, Copy)]
+pub struct ReadFault {
+    pub fault: Fault,
+    pub counts: Counts,
+}
+
+impl From<ReadFault> for Outcome {
+    ghost from_gives = { λ f o. o ≡ outcome_of f.fault };
+
+    fn from(fault: ReadFault) -> Outcome {
+        fault.fault.into()
     }
 }
 
@@ -87,40 +115,51 @@ pub fn read_on(
     before: Before,
     ports: &mut [u32],
     links: &mut [u32],
-) -> Result<Counts, Fault>
+) -> Result<Counts, ReadFault>
     requires { Room (length s.now) before (length ports.old) (length links.old) }
     ensures { Filled before (read_on s.now before) ports.old links.old ports.new links.new result }
 {
     let by = before.ports - before.named;
     let mut b = before;
     let mut at: usize = 0;
-    while let Some((read, next)) = record::read_record(s, at, b)? {
-        match read {
-            Record::Port(p) => {
-                ports::store(ports, b.ports, p);
-                b = with_port(b);
+    // One match: with `map_err` and `?` each record is copied.
+    loop {
+        match record::read_record(s, at, b) {
+            Ok(Some((read, next))) => {
+                match read {
+                    Record::Port(p) => {
+                        ports::store(ports, b.ports, p);
+                        b = with_port(b);
+                    }
+                    Record::Link(l) => {
+                        links::store(links, b.links, move_up(l, by));
+                        b = with_link(b);
+                    }
+                }
+                at = next;
             }
-            Record::Link(l) => {
-                links::store(links, b.links, move_up(l, by));
-                b = with_link(b);
+            Ok(None) => return Ok(b.into()),
+            Err(fault) => {
+                return Err(ReadFault {
+                    fault,
+                    counts: b.into(),
+                });
             }
         }
-        at = next;
     }
-    Ok(Counts {
-        ports: b.ports,
-        links: b.links,
-    })
 }
 
 // Reads a table: the case with nothing before it, and 12 where it has no port.
-pub fn read_table(s: &[u8], ports: &mut [u32], links: &mut [u32]) -> Result<Counts, Fault>
+pub fn read_table(s: &[u8], ports: &mut [u32], links: &mut [u32]) -> Result<Counts, ReadFault>
     requires { Room (length s.now) start (length ports.old) (length links.old) }
     ensures { Filled start (read_table s.now) ports.old links.old ports.new links.new result }
 {
     let read = read_on(s, Before::START, ports, links)?;
     if read.ports == 0 {
-        return Err(Refusal::NoPort.into());
+        return Err(ReadFault {
+            fault: Refusal::NoPort.into(),
+            counts: read,
+        });
     }
     Ok(read)
 }

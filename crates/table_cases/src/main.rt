@@ -41,6 +41,6 @@ fn read(s: &[u8]) -> (u64, usize)
     let mut links = links::room();
     match reading::read_table(s, &mut ports, &mut links) {
         Ok(_) => (0, 0),
-        Err(fault) => (fault.refusal.number(), fault.place),
+        Err(read) => (read.fault.refusal.number(), read.fault.place),
     }
 }

@@ -68,7 +68,7 @@ decimal_in_lem (suc k) n =
     (λ e. less (word (hex_digit_ascii n ∷ [])) (omega arith))
     (λ e. less (decimal_in_lem k (n / 10) ⊕ word (hex_digit_ascii (n % 10) ∷ [])) (omega arith))
 
-decimal_size : (n : ℕ) → AtMost (decimal n) 20
+pub decimal_size : (n : ℕ) → AtMost (decimal n) 20
 unfolding decimal
 decimal_size n = decimal_in_lem 19 n
 
@@ -124,7 +124,7 @@ head_size : (number : ℕ) → AtMost (cycle_word number) 11
 unfolding cycle_word
 head_size number = either (eqb number 0) (λ e. word _) (λ e. less (word block_word) (omega arith))
 
-items_size : {item : ℕ → List ℕ} {most : ℕ}
+pub items_size : {item : ℕ → List ℕ} {most : ℕ}
     → ((at : ℕ) → AtMost (item at) most)
     → (size at n : ℕ) → AtMost (items_text item size at n) (n * most)
 unfolding items_text
@@ -132,11 +132,11 @@ items_size h size at zero = less (word []) (omega arith)
 items_size h size at (suc n) = less (h at ⊕ items_size h size (at + size) n) (omega arith)
 
 module _ (s : List ℕ) where
-  connection_size : (at : ℕ) → AtMost (connection_at s at) 21
+  pub connection_size : (at : ℕ) → AtMost (connection_at s at) 21
   unfolding connection_at connection_text
   connection_size at = field_size space _
 
-  step_size : (at : ℕ) → AtMost (step_at s at) 22
+  pub step_size : (at : ℕ) → AtMost (step_at s at) 22
   unfolding step_at step_text
   step_size at = sign_size _ ⊕ decimal_size _
 
@@ -149,7 +149,7 @@ module _ (s : List ℕ) where
   cycle_size at number n = less (line_size (head_size number) (items_size connection_size 2 (at + 4) n)) (omega arith)
 
   -- at most twelve bytes for each byte of the record
-  record_size : (at number : ℕ) → Lies s at → AtMost (record_line s at number) (12 * (2 + number_at s at 2))
+  pub record_size : (at number : ℕ) → Lies s at → AtMost (record_line s at number) (12 * (2 + number_at s at 2))
   unfolding record_line port_at buffer_at floor_at
   record_size at number h =
       let kind = number_at s (at + 2) 2 in

@@ -11,6 +11,7 @@ use Rattle.refusals.specs.Numbers.{number_of as refusal_number}
 use Rattle.weights.specs.declared.ratios.Discord.{Discord}
 use Rattle.weights.specs.declared.ratios.Discord.TheVariants.{Loop, OverLimit}
 use Rattle.weights.specs.declared.ratios.Weighted.{Weighted}
+use Rattle.weights.specs.declared.ratios.Unweighted.{Unweighted}
 
 -- the loop as numbers: of each step the link's number and its direction, 0 along and 1 against
 pub record LoopNumbers (t : Table) (numbers : List ℕ) (steps : ℕ) : Type 0 where
@@ -24,9 +25,9 @@ refusal_of (Loop steps) = Ratios
 refusal_of OverLimit = Weight
 
 -- the number of document 01
-abbrev pub number_of : Result Weighted Discord → ℕ
+abbrev pub number_of : Result Weighted Unweighted → ℕ
 number_of (Ok r) = 0
-number_of (Err d) = refusal_number (refusal_of d)
+number_of (Err u) = refusal_number (refusal_of u.discord)
 
 -- all of 13 is tried before 14; the numbers hold the loop of 13 and are else unchanged
 abbrev pub DiscordHolds : Table → (numbers numbers' : List ℕ) → Discord → Type 0
@@ -38,6 +39,11 @@ pub record HasRatios (t : Table) (r : Weighted) : Type 0 where
   pub components : Components t r.labels
   pub weights : HasWeights t r.weights
 
-abbrev pub IsRatios : Table → (numbers numbers' : List ℕ) → Result Weighted Discord → Type 0
+-- else the components too, and why there are no weights
+pub record HasDiscord (t : Table) (numbers numbers' : List ℕ) (u : Unweighted) : Type 0 where
+  pub components : Components t u.labels
+  pub discord : DiscordHolds t numbers numbers' u.discord
+
+abbrev pub IsRatios : Table → (numbers numbers' : List ℕ) → Result Weighted Unweighted → Type 0
 IsRatios t numbers numbers' (Ok r) = HasRatios t r × (numbers' ≡ numbers)
-IsRatios t numbers numbers' (Err d) = DiscordHolds t numbers numbers' d
+IsRatios t numbers numbers' (Err u) = HasDiscord t numbers numbers' u

@@ -9,7 +9,6 @@ use native.Mathlib.Omega.{arith}
 use lib.ListN.{length, get_or}
 use Rattle.specification.specs.Bytes.{Written, cycle_answer}
 use Rattle.specification.specs.Table.{Table, port_count, link_count}
-use Rattle.order.specs.OrderLaws.{few_keyed, most_keyed_lem}
 use Rattle.period.specs.Component.{Component}
 use Rattle.period.specs.Edges.{limits_of, edges_of, PortNumbers, Readable}
 use Rattle.period.specs.Greatest.{GreatestLimit}
@@ -21,8 +20,8 @@ use Rattle.period.specs.declared.search.SearchEnd.TheVariants.{Least, NoLeast as
 use Rattle.fraction.specs.declared.Fraction.{Fraction}
 use Rattle.specification.specs.Ratios.{IsComponent}
 use Rattle.specification.specs.Answers.{blocked, no_least, consistent, records, floor_record}
-use Rattle.graph.specs.Arranged.{Labelled, labels_of, link_owners, most_members, SlicesIn}
-use Rattle.graph.specs.OwnersLaws.{owners_length}
+use Rattle.graph.specs.Arranged.{Labelled, most_members, SlicesIn}
+use Rattle.graph.specs.ArrangedLaws.{few_members, few_numbers}
 use Rattle.graph.specs.Searched.{connections_of, floor_of, PeriodIn, BlockIn}
 use Rattle.graph.specs.SearchedLaws.{slices_searched, slices_idle, slices_no_least}
 use Rattle.graph.specs.SliceLaws.{port_of_lem, some_component, no_component, first_member, slices_component, slices_readable}
@@ -78,21 +77,24 @@ module _ {t : Table} {weights members numbers : List ℕ} (k : ComponentSlices t
     pub idle_without : (kept : List Kept) (answer : List ℕ) → GreatestLimit members limits None → OneNoLeast t weights c kept kept answer answer
     idle_without kept answer g = record { no_least_lem = slices_no_least k.labelled k.slices k.component g none; same_length = refl; unchanged = refl }
 
-  pub settled : (work answer : List ℕ) {period : Fraction} {rounds : ℕ} {kept₀ kept : List Kept} → SearchResult members limits edges work (Least period rounds)
+  pub settled : (work answer : List ℕ) {period : Fraction} {floor : Floor} {rounds : ℕ} {kept₀ kept : List Kept}
+      → SearchResult members limits edges work (Least period floor rounds)
       → IsKept members period (part work (64 * (rounds - 1)) (64 * (rounds - 1) + 64)) kept₀ kept
       → OneLeast t weights c kept₀ kept answer answer
-  settled work answer {period} {rounds} found h = one_least answer (slices_searched k.labelled k.slices k.component work (Least period rounds) found) (rw width at h)
+  settled work answer {period} {floor} {rounds} found h =
+      one_least answer (slices_searched k.labelled k.slices k.component work (Least period floor rounds) found) (rw width at h)
     where
       width : 64 * (rounds - 1) + 64 - 64 * (rounds - 1) ≡ 64
       width = omega arith
 
-  pub without : (work : List ℕ) (kept : List Kept) (answer : List ℕ) → SearchResult members limits edges work EndsWithout → OneNoLeast t weights c kept kept answer answer
-  without work kept answer found =
-      record { no_least_lem = slices_searched k.labelled k.slices k.component work EndsWithout found; same_length = refl; unchanged = refl }
+  pub without : (work : List ℕ) (kept : List Kept) (answer : List ℕ) {rounds : ℕ} → SearchResult members limits edges work (EndsWithout rounds)
+      → OneNoLeast t weights c kept kept answer answer
+  without work kept answer {rounds} found =
+      record { no_least_lem = slices_searched k.labelled k.slices k.component work (EndsWithout rounds) found; same_length = refl; unchanged = refl }
 
-  module _ {floor : Floor} {block : Cycle} (found : FoundBlock members limits edges floor block) where
+  module _ {floor : Floor} {block : Cycle} {rounds : ℕ} (found : FoundBlock members limits edges floor block rounds) where
     block_in : BlockIn t weights c floor block numbers
-    block_in = slices_searched k.labelled k.slices k.component [] (EndsBlocked floor block) found
+    block_in = slices_searched k.labelled k.slices k.component [] (EndsBlocked floor block rounds) found
 
     pub shown : {answer answer' : List ℕ} {n : ℕ} (kept : List Kept)
         → Written (shown_in (length answer) (floor_record (floor_of numbers floor) ++ cycle_answer (connections_of numbers block))) answer answer' n
@@ -120,12 +122,7 @@ module _ {t : Table} {labels : List ℕ} {c : ℕ} {members numbers : List ℕ} 
 
   -- the room for the largest suffices
   pub enough_room : {room : ℕ} → c < port_count t → 64 * most_members t labels + 64 + 4 * link_count t ≤ room → 64 * length members + 64 + 4 * length numbers ≤ room
-  enough_room low enough =
-      let keys = labels_of t labels in
-      let owners = link_owners t labels in
-      let few_members : length members ≤ most_members t labels = rw m.are (most_keyed_lem keys (length keys) (port_count t) low) in
-      let few_numbers : length numbers ≤ length owners = rw n.are (few_keyed owners c (length owners)) in
-      omega (arith, owners_length t labels (link_count t))
+  enough_room low enough = omega (arith, few_members slices_of low, few_numbers slices_of)
 
   module _ {weights : List ℕ} (l : Labelled t labels weights) (some : ¬ (length members ≡ 0)) where
     pub names : IsComponent t c

@@ -13,8 +13,8 @@ invariant_of-sides c =
     record {
       parted = record {
         can = sym c.cannot_hide.ensures ∙ c.if-cannot_hide.false;
-        into_are = rw c.deref.ensures.0 (c.numbers_of-into.ensures (goes_into p) (record { each = λ k b a. search rules }));
-        from_are = rw c.deref-2.ensures.0 (c.numbers_of-from.ensures (comes_from p) (record { each = λ k b a. search rules }));
-        apart_are = rw c.deref-3.ensures.0 (c.numbers_of-apart.ensures (apart p) (record { each = λ k b a. search rules }));
+        into_are = c.numbers_of.ensures (goes_into p) (record { each = λ k b a. search rules });
+        from_are = c.numbers_of-2.ensures (comes_from p) (record { each = λ k b a. search rules });
+        apart_are = c.numbers_of-3.ensures (apart p) (record { each = λ k b a. search rules });
       };
     }

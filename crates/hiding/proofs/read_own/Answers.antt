@@ -8,7 +8,7 @@ use Rattle.hiding.proofs.read_own.Goals as goal
 
 pub returns-in_err-counts : goal.returns-in_err-counts
 returns-in_err-counts c =
-    let e : c.from_residual.result ≡ Err (outcome_of c.in_err-counts.field-0.0) = search rules in rw e (own_faulty c.args.s.now c.in_err-counts.ensures)
+    let e : c.from_residual.result ≡ Err (outcome_of c.in_err-counts.field-0.0.fault) = search rules in rw e (own_faulty c.args.s.now c.in_err-counts.ensures)
 
 pub table-requires-clause-well_formed : goal.table-requires-clause-well_formed
 table-requires-clause-well_formed c = formed_read c.args.s.now c.in_ok-counts.ensures

@@ -17,7 +17,7 @@ use Rattle.table.specs.Filled.{Room, FaultOf, Filled}
 use Rattle.table.specs.FilledLaws.{moved_none, front_none, front_on}
 use Rattle.joins.specs.JoinCases.{join_first, join_second, join_added, join_whole}
 use Rattle.joins.specs.Refusals.{input_of}
-use Rattle.joins.specs.InputsRead.{InputRead, Held, JoinFault, TablesRead, InputsRead}
+use Rattle.joins.specs.InputsRead.{InputRead, Held, FaultRead, TablesRead, InputsRead}
 use Rattle.specification.specs.declared.Before.{Before}
 use Rattle.table.specs.declared.reading.Counts.{Counts}
 use Rattle.joins.specs.declared.inputs.Input.{Input}
@@ -48,12 +48,12 @@ module _ {t : Table} {left : ℕ} {ports links : List ℕ} {p m : ℕ} (h : Held
       let fits = read_on_fits s b in
       let bytes = read_on_bytes s b in
       record {
-        port_count_lem = omega (arith, f.returned.port_count_lem, h.port_count_lem, length-append t.ports u.ports);
-        link_count_lem = omega (arith, f.returned.link_count_lem, h.link_count_lem, length-append t.links up, length-map u.links (moved (p - named)));
-        few_ports = omega (arith, f.returned.port_count_lem, fits.few_ports h.few_ports);
-        few_links = omega (arith, f.returned.link_count_lem, fits.few_links h.few_links);
-        port_room = omega (arith, h.port_room, f.returned.port_count_lem, bytes, ap length f.ports_are, length-sets ports (2 * p) (port_numbers u.ports));
-        link_room = omega (arith, h.link_room, f.returned.link_count_lem, bytes, ap length f.links_are, length-sets links (10 * m) (link_numbers up));
+        port_count_lem = omega (arith, f.port_count_lem, h.port_count_lem, length-append t.ports u.ports);
+        link_count_lem = omega (arith, f.link_count_lem, h.link_count_lem, length-append t.links up, length-map u.links (moved (p - named)));
+        few_ports = omega (arith, f.port_count_lem, fits.few_ports h.few_ports);
+        few_links = omega (arith, f.link_count_lem, fits.few_links h.few_links);
+        port_room = omega (arith, h.port_room, f.port_count_lem, bytes, ap length f.ports_are, length-sets ports (2 * p) (port_numbers u.ports));
+        link_room = omega (arith, h.link_room, f.link_count_lem, bytes, ap length f.links_are, length-sets links (10 * m) (link_numbers up));
         front = front_on f h.front;
       }
 
@@ -101,32 +101,44 @@ module _ {ports links ports' links' : List ℕ} {c : Counts} where
     }
 
 -- ---- the first fault
-module _ {first second added : List ℕ} {f : InputFault} where
-  fault_is : {given : Reading} {input : Input} → join_of first second added ≡ refusal given.number given.place (input_of input) → FaultOf given f.fault → f.input ≡ input
-      → JoinFault first second added f
-  fault_is e w named = record {
-    is = e ∙ rw (w.number, w.place, named) refl;
-    some = λ z. w.some (sym (ap (λ (j : Join). j.number) e) ∙ z);
-  }
+module _ {first second added : List ℕ} {f : InputFault} {ports links ports' links' : List ℕ} where
+  fault_read : {s : List ℕ} {b : Before} {given : Reading} {input : Input} → InputRead s input b ports links ports' links' (Err f)
+      → join_of first second added ≡ refusal given.number given.place (input_of input)
+      → FaultOf given f.fault
+      → FaultRead first second added ports' links' f
+  fault_read {s = s} {b} r e w =
+      let t = (read_on s b).table in
+      record {
+        refused = record {
+          is = e ∙ rw (w.number, w.place, r.named) refl;
+          some = λ z. w.some (sym (ap (λ (j : Join). j.number) e) ∙ z);
+        };
+        port_room = omega (arith, r.filled.port_room, ap length r.filled.ports_are, length-sets ports (2 * b.ports) (port_numbers t.ports));
+        link_room = omega (
+          arith,
+          r.filled.link_room,
+          ap length r.filled.links_are,
+          length-sets links (10 * b.links) (link_numbers (map (moved (b.ports - b.named)) t.links)),
+        );
+      }
 
-  module _ {ports links ports' links' : List ℕ} where
-    pub first_faulty : InputRead first First start ports links ports' links' (Err f) → JoinFault first second added f
-    first_faulty r = fault_is (join_first first second added r.filled.returned.some) r.filled.returned r.named
+  pub first_faulty : InputRead first First start ports links ports' links' (Err f) → FaultRead first second added ports' links' f
+  first_faulty r = fault_read r (join_first first second added r.filled.returned.some) r.filled.returned
 
-    module _ {left p m : ℕ} where
-      pub second_faulty : (read_first first).number ≡ 0 → Held (read_first first).table left ports links p m
-          → InputRead second Second (before p m 0 true) ports links ports' links' (Err f)
-          → JoinFault first second added f
-      second_faulty z h r =
-          let w : FaultOf (read_second first second) f.fault = rw (h.port_count_lem, h.link_count_lem) at r.filled.returned in
-          fault_is (join_second first second added z w.some) w r.named
+  module _ {left p m : ℕ} where
+    pub second_faulty : (read_first first).number ≡ 0 → Held (read_first first).table left ports links p m
+        → InputRead second Second (before p m 0 true) ports links ports' links' (Err f)
+        → FaultRead first second added ports' links' f
+    second_faulty z h r =
+        let w : FaultOf (read_second first second) f.fault = rw (h.port_count_lem, h.link_count_lem) at r.filled.returned in
+        fault_read r (join_second first second added z w.some) w
 
-      pub added_faulty : (read_first first).number ≡ 0 → (read_second first second).number ≡ 0 → Held (both_tables first second) left ports links p m
-          → InputRead added Added (before p m p false) ports links ports' links' (Err f)
-          → JoinFault first second added f
-      added_faulty z y h r =
-          let w : FaultOf (read_added first second added) f.fault = rw (h.port_count_lem, h.link_count_lem) at r.filled.returned in
-          fault_is (join_added first second added z y w.some) w r.named
+    pub added_faulty : (read_first first).number ≡ 0 → (read_second first second).number ≡ 0 → Held (both_tables first second) left ports links p m
+        → InputRead added Added (before p m p false) ports links ports' links' (Err f)
+        → FaultRead first second added ports' links' f
+    added_faulty z y h r =
+        let w : FaultOf (read_added first second added) f.fault = rw (h.port_count_lem, h.link_count_lem) at r.filled.returned in
+        fault_read r (join_added first second added z y w.some) w
 
 -- ---- the tables, the second behind the first
 pub tables_read : (first second : List ℕ) {ports links ports₁ links₁ ports₂ links₂ : List ℕ} {one : Counts} (r : Result Counts InputFault)

@@ -11,4 +11,4 @@ pub returns-in-Ok : goal.returns-in-Ok
 returns-in-Ok c = written_joined c.in-Ok.ensures c.cut.ensures.ports c.cut.ensures.links c.write_joined.ensures
 
 pub returns-in-Err : goal.returns-in-Err
-returns-in-Err c = refused c.in-Err.ensures c.into.ensures
+returns-in-Err c = refused c.in-Err.ensures.refused c.into.ensures

@@ -16,17 +16,11 @@ use Rattle.rounds.specs.Walks.{Among, cycle_bound, PositiveCycle}
 use Rattle.period.specs.Limits.{E⁺, E⁻, D⁺, D⁻, GreaterLimit, falling_limit, limit_scaled, serves_meets}
 use Rattle.period.specs.Component.{graph_of, Component, SmallEdges, SmallTried, most_amount, most_rate, just_above}
 use Rattle.period.specs.JustAbove.{rising_above_zero, no_least_above_zero}
-use Rattle.period.specs.Search.{SmallPeriod, cycle_of, floor_in}
+use Rattle.period.specs.Search.{SmallPeriod, IsLimit, cycle_of, floor_in}
 use Rattle.period.proofs.search.Falls.{left, left_falls}
 use Rattle.period.specs.declared.cycle.Cycle.{Cycle}
 use Rattle.period.specs.declared.search.Floor.{Floor}
 use Rattle.period.specs.declared.search.Floor.TheVariants.{Rate, Lower, Zero}
-
--- the limit that a floor is: the rate limit of a port, or the lower limit of the cycle
-abbrev IsLimit : Graph → Floor → (a b : ℕ) → Type 0
-IsLimit g (Rate p) a b = RateLimit g p a b
-IsLimit g (Lower c) a b = CycleLimit g (cycle_of c) a b
-IsLimit g Zero a b = ⊥
 
 -- a/b is the floor's limit
 pub record TriedLimit (g : Graph) (floor : Floor) (a b : ℕ) : Type 0 where

@@ -16,7 +16,9 @@ use Rattle.period.specs.Component.{graph_of, Component, just_above}
 use Rattle.rounds.specs.Costs.{Priced, most_cost}
 use Rattle.rounds.specs.StartsLaws.{starts_bound}
 use Rattle.rounds.specs.Starts.{Stopped, starts as starts_after, row}
-use Rattle.rounds.specs.Back.{FoundCycle}
+use Rattle.rounds.specs.Back.{edges_of, FoundCycle}
+use Rattle.rounds.specs.declared.back.Part.{Part}
+use Rattle.period.specs.Within.{WithinSteps}
 use Rattle.period.specs.Prices.{prices_of}
 use Rattle.period.specs.PricesLaws.{prices_small, prices_enclosed, prices_cycle, prices_settled, cycle_edges}
 use Rattle.period.specs.ComponentLaws.{component_edges}
@@ -28,7 +30,6 @@ use Rattle.period.proofs.search.Falls.{left}
 use Rattle.period.proofs.search.Floored.{TriedLimit, TriedAt, Floored, floored_small, floored_next, floored_falls, floored_blocks, floored_period, floored_no_least}
 use Rattle.period.specs.declared.sums.Sums.{Sums}
 use Rattle.period.specs.declared.limit.Limit.{Limit}
-use Rattle.period.specs.declared.cycle.Cycle.{Cycle}
 use Rattle.period.specs.declared.search.Floor.{Floor}
 use Rattle.period.specs.declared.search.Floor.TheVariants.{Rate, Lower, Zero}
 use Rattle.period.specs.declared.search.SearchEnd.TheVariants.{Least, NoLeast as EndsWithout, Blocked as EndsBlocked}
@@ -110,71 +111,74 @@ module _ {ports limits edges work₀ work : List ℕ} {count : ℕ} {period : Fr
     found : (x : Floor) → TriedLimit (graph_of ports limits edges) x period.num period.den
         → ((p : ℕ) × RateLimit (graph_of ports limits edges) p period.num period.den)
         ⊎ ((path : List ℕ) × CycleLimit (graph_of ports limits edges) path period.num period.den)
-        → SearchResult ports limits edges work' (Least period (r + 1))
+        → SearchResult ports limits edges work' (Least period x (r + 1))
     found x t l = record {
       period = floored_period s.floored t l least;
+      shown = t.is_limit;
       least = least;
       run = run;
       small = t.small;
       small_starts = λ p. rw made (omega (arith, starts_bound (prices_of edges period.num period.den) priced r p, mul-le-mul_right most_cost h.within, mul-le-mul_right most_cost s.component.few_ports));
     }
 
-    by : (x : Floor) → x ≢ Zero → TriedAt (graph_of ports limits edges) x period.num period.den → SearchResult ports limits edges work' (Least period (r + 1))
+    by : (x : Floor) → x ≢ Zero → TriedAt (graph_of ports limits edges) x period.num period.den → SearchResult ports limits edges work' (Least period x (r + 1))
     by (Rate p) d t = found (Rate p) t (inl (p, t.is_limit))
     by (Lower c) d t = found (Lower c) t (inr (cycle_of c, t.is_limit))
     by Zero d t = absurd (d refl)
 
-    pub searching_settled : floor ≢ Zero → SearchResult ports limits edges work' (Least period (r + 1))
+    pub searching_settled : floor ≢ Zero → SearchResult ports limits edges work' (Least period floor (r + 1))
     searching_settled d = by floor d s.floored.tried
 
-    pub searching_without : floor ≡ Zero → SearchResult ports limits edges work' EndsWithout
+    pub searching_without : floor ≡ Zero → SearchResult ports limits edges work' (EndsWithout (r + 1))
     searching_without e =
         let t : TriedAt (graph_of ports limits edges) Zero period.num period.den = rw e at s.floored.tried in
         record {
           no_least_lem = floored_no_least s.component s.floored t least;
           is_zero = t.is_zero;
-          rounds = r + 1;
           run = rw (t.num, t.den) at run;
         }
 
   -- a cycle that is positive at a/b
-  module _ (c : Cycle) (found : FoundCycle (prices_of edges period.num period.den) c.steps c.part) where
-    positive : PositiveCycle (graph_of ports limits edges) (gain (graph_of ports limits edges) period.num period.den) (loss (graph_of ports limits edges) period.num period.den) (cycle_of c)
+  module _ {steps : List ℕ} {part : Part} (found : FoundCycle (prices_of edges period.num period.den) steps part) where
+    positive : PositiveCycle (graph_of ports limits edges) (gain (graph_of ports limits edges) period.num period.den) (loss (graph_of ports limits edges) period.num period.den) (edges_of steps part)
     positive = prices_cycle ports limits edges period.num period.den found.cycle
 
-    pub searching_sums : Summing edges (cycle_of c)
+    pub searching_sums : Summing edges (edges_of steps part)
     searching_sums = record {
-      few = omega (arith, found.short, length-take (c.part.last - c.part.first) (drop c.part.first c.steps));
+      few = omega (arith, found.short, length-take (part.last - part.first) (drop part.first steps));
       edges_of_lem = cycle_edges positive.cycle;
       small = component_edges s.component;
     }
 
-    module _ {path : List ℕ} (same : path ≡ cycle_of c) {sums : Sums} (sums_are : SumsOf edges path sums) where
-      m : SumsOf edges (cycle_of c) sums
+    module _ {path : List ℕ} (same : path ≡ edges_of steps part) {sums : Sums} (sums_are : SumsOf edges path sums) where
+      m : SumsOf edges (edges_of steps part) sums
       m = rw same at sums_are
 
       -- D zero or more: it blocks
-      pub searching_blocked : (work' : List ℕ) → sums.events.1 ≤ sums.events.0 → SearchResult ports limits edges work' (EndsBlocked floor c)
+      pub searching_blocked : {within : WithinSteps steps part} (work' : List ℕ) → sums.events.1 ≤ sums.events.0
+          → SearchResult ports limits edges work' (EndsBlocked floor (record { steps = steps; part = part; within = within }) (length ports))
       searching_blocked work' rises = record {
         is_blocked = floored_blocks s.component.among s.component.few_ports s.component.small_edges s.floored positive (omega (arith, m));
+        all_rounds = refl;
       }
 
       -- D below zero: the search goes on at the cycle's lower limit
       module _ (falls : sums.events.0 < sums.events.1) where
-        falling : D⁺ (graph_of ports limits edges) (cycle_of c) < D⁻ (graph_of ports limits edges) (cycle_of c)
+        falling : D⁺ (graph_of ports limits edges) (edges_of steps part) < D⁻ (graph_of ports limits edges) (edges_of steps part)
         falling = omega (arith, m)
 
         pub searching_gains : sums.ticks.1 < sums.ticks.0
-        searching_gains = omega (arith, m, falling_gains (graph_of ports limits edges) (cycle_of c) period.num period.den positive.positive falling)
+        searching_gains = omega (arith, m, falling_gains (graph_of ports limits edges) (edges_of steps part) period.num period.den positive.positive falling)
 
         module _ {period' : Fraction} (e : period' ≡ lowest_terms (sums.ticks.0 - sums.ticks.1) (sums.events.1 - sums.events.0)) where
-          lowest_limit : period' ≡ lowest_terms (E⁺ (graph_of ports limits edges) (cycle_of c) - E⁻ (graph_of ports limits edges) (cycle_of c)) (D⁻ (graph_of ports limits edges) (cycle_of c) - D⁺ (graph_of ports limits edges) (cycle_of c))
+          lowest_limit : period' ≡ lowest_terms (E⁺ (graph_of ports limits edges) (edges_of steps part) - E⁻ (graph_of ports limits edges) (edges_of steps part)) (D⁻ (graph_of ports limits edges) (edges_of steps part) - D⁺ (graph_of ports limits edges) (edges_of steps part))
           lowest_limit = rw (← m.ticks_forward_lem, ← m.ticks_back_lem, ← m.events_forward, ← m.events_back) e
 
           pub searching_falls : left just_above period'.num period'.den < left just_above period.num period.den
           searching_falls = floored_falls s.component.among s.component.few_ports s.component.small_edges s.floored positive falling lowest_limit
 
-          pub searching_next : {work' : List ℕ} → length work' ≡ length work → Searching ports limits edges count work₀ work' period' (Lower c)
+          pub searching_next : {within : WithinSteps steps part} {work' : List ℕ} → length work' ≡ length work
+              → Searching ports limits edges count work₀ work' period' (Lower (record { steps = steps; part = part; within = within }))
           searching_next longer = record {
             component = s.component;
             counted = s.counted;

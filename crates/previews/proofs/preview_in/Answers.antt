@@ -9,4 +9,4 @@ pub returns-in-Ok : goal.returns-in-Ok
 returns-in-Ok c = preview_analysed c.in-Ok.ensures c.cut.ensures.ports c.cut.ensures.links c.analyse_table-r.ensures
 
 pub returns-in-Err : goal.returns-in-Err
-returns-in-Err c = preview_refused c.in-Err.ensures _ c.into.ensures
+returns-in-Err c = preview_refused c.in-Err.ensures.refused _ c.into.ensures

@@ -13,7 +13,7 @@ use Rattle.table.specs.WellFormed.{PortFits, LinkFits}
 use Rattle.specification.specs.Reading.{record_at, with_port, with_link, after, read_from, read_on}
 use Rattle.table.specs.RecordLaws.{Accepted, accepted}
 use Rattle.table.specs.ReadingLaws.{between_fits}
-use Rattle.table.specs.Filled.{Room, Filled}
+use Rattle.table.specs.Filled.{Room, counts_before, Filled}
 use Rattle.specification.specs.Joining.{moved}
 use Rattle.specification.specs.declared.Port.{Port}
 use Rattle.specification.specs.declared.Link.{Link}
@@ -26,13 +26,14 @@ use Rattle.table.specs.declared.record.Record.{Record}
 use Rattle.table.specs.declared.record.Record.TheVariants.{Port as PortFound, Link as LinkFound}
 use Rattle.refusals.specs.declared.Fault.{Fault}
 use Rattle.table.specs.declared.reading.Counts.{Counts}
+use Rattle.table.specs.declared.reading.ReadFault.{ReadFault}
 use Rattle.table.proofs.reading.Filling.{filled_end, filled_refused, filled_port, filled_link}
 
 module _ (s ports₀ links₀ : List ℕ) (by : ℕ) (b₀ : Before) where
   -- `left` is the bound that is left
   pub record Going (ports links : List ℕ) (b : Before) (at : ℕ) : Type 0 where
     pub left : ℕ
-    pub on : (ports' links' : List ℕ) (c : Result Counts Fault) → Filled b (read_from (suc left) s at b) ports links ports' links' c
+    pub on : (ports' links' : List ℕ) (c : Result Counts ReadFault) → Filled b (read_from (suc left) s at b) ports links ports' links' c
         → Filled b₀ (read_on s b₀) ports₀ links₀ ports' links' c
     pub enough : length s ≤ left + at
     pub inside : at ≤ length s
@@ -45,7 +46,7 @@ module _ (s ports₀ links₀ : List ℕ) (by : ℕ) (b₀ : Before) where
   pub record Turn (ports links : List ℕ) (b : Before) (at : ℕ) (r : Read) : Type 0 where
     pub going : Going ports links b at
     pub told : Accepted s at b r
-    pub then : (ports' links' : List ℕ) (c : Result Counts Fault) → Filled b (after (read_from going.left s) b r) ports links ports' links' c
+    pub then : (ports' links' : List ℕ) (c : Result Counts ReadFault) → Filled b (after (read_from going.left s) b r) ports links ports' links' c
         → Filled b₀ (read_on s b₀) ports₀ links₀ ports' links' c
 
 pub started : (s ports links : List ℕ) {by : ℕ} {b : Before} → Room (length s) b (length ports) (length links) → by ≡ b.ports - b.named
@@ -72,19 +73,23 @@ module _ {s ports₀ links₀ : List ℕ} {by : ℕ} {b₀ : Before} {ports link
   unfolding read_from
   turn g e = rw e (record { going = g; told = accepted s at b; then = g.on })
 
-  pub port_turn : {x : Option (Record × ℕ)} {r : Record} {p : Port} {next : ℕ} → Going s ports₀ links₀ by b₀ ports links b at
-      → read_of (Ok x) ≡ record_at s at b
+  pub port_turn : {read : Result (Option (Record × ℕ)) Fault} {x : Option (Record × ℕ)} {r : Record} {p : Port} {next : ℕ}
+      → Going s ports₀ links₀ by b₀ ports links b at
+      → read_of read ≡ record_at s at b
+      → read ≡ Ok x
       → x ≡ Some (r, next)
       → r ≡ PortFound p
       → Turn s ports₀ links₀ by b₀ ports links b at (PortRecord p next)
-  port_turn g read some port = turn g (rw (some, port) at read)
+  port_turn g is ok some port = turn g (rw (ok, some, port) at is)
 
-  pub link_turn : {x : Option (Record × ℕ)} {r : Record} {l : Link} {next : ℕ} → Going s ports₀ links₀ by b₀ ports links b at
-      → read_of (Ok x) ≡ record_at s at b
+  pub link_turn : {read : Result (Option (Record × ℕ)) Fault} {x : Option (Record × ℕ)} {r : Record} {l : Link} {next : ℕ}
+      → Going s ports₀ links₀ by b₀ ports links b at
+      → read_of read ≡ record_at s at b
+      → read ≡ Ok x
       → x ≡ Some (r, next)
       → r ≡ LinkFound l
       → Turn s ports₀ links₀ by b₀ ports links b at (LinkRecord l next)
-  link_turn g read some link = turn g (rw (some, link) at read)
+  link_turn g is ok some link = turn g (rw (ok, some, link) at is)
 
   -- the slices have room for the record, and what is stored is within the limits
   pub port_fits : {p : Port} {next : ℕ} → Turn s ports₀ links₀ by b₀ ports links b at (PortRecord p next)
@@ -151,11 +156,17 @@ module _ {s ports₀ links₀ : List ℕ} {by : ℕ} {b₀ : Before} {ports link
         long_links = long ∙ g.long_links;
       })
 
-  pub refused : {f : Fault} {x : Result Counts Fault} → Going s ports₀ links₀ by b₀ ports links b at → read_of (Err f) ≡ record_at s at b
-      → x ≡ Err f
-      → Filled b₀ (read_on s b₀) ports₀ links₀ ports links x
-  refused {f} g read e = rw e ((turn g read).then _ _ _ (filled_refused f g.room))
+  pub refused : {read : Result (Option (Record × ℕ)) Fault} {f : Fault} {c : Counts} → Going s ports₀ links₀ by b₀ ports links b at
+      → read_of read ≡ record_at s at b
+      → read ≡ Err f
+      → c ≡ counts_before b
+      → Filled b₀ (read_on s b₀) ports₀ links₀ ports links (Err (record { fault = f; counts = c }))
+  refused {f = f} g is err e = rw e ((turn g (rw err at is)).then _ _ _ (filled_refused f g.room))
 
-  pub ended : {x : Option (Record × ℕ)} → Going s ports₀ links₀ by b₀ ports links b at → read_of (Ok x) ≡ record_at s at b → x ≡ None
-      → Filled b₀ (read_on s b₀) ports₀ links₀ ports links (Ok (record { ports = b.ports; links = b.links }))
-  ended g read none = (turn g (rw none at read)).then _ _ _ (filled_end g.room)
+  pub ended : {read : Result (Option (Record × ℕ)) Fault} {x : Option (Record × ℕ)} {c : Counts} → Going s ports₀ links₀ by b₀ ports links b at
+      → read_of read ≡ record_at s at b
+      → read ≡ Ok x
+      → x ≡ None
+      → c ≡ counts_before b
+      → Filled b₀ (read_on s b₀) ports₀ links₀ ports links (Ok c)
+  ended g is ok none e = rw e ((turn g (rw (ok, none) at is)).then _ _ _ (filled_end g.room))

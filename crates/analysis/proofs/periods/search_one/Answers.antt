@@ -1,6 +1,13 @@
 -- What the search finds is kept or shown.
-use Rattle.analysis.proofs.periods.Turns.{members_of, component_of, settled, without, shown, named_floor, named_block}
+use Rattle.period.specs.ComponentLaws.{limited}
+use Rattle.analysis.proofs.periods.Turns.{members_of, component_of, ports_of_lem, settled, without, shown, named_floor, named_block}
 use Rattle.analysis.proofs.periods.search_one.Goals as goal
+
+pub greatest_limit-greatest-requires : goal.greatest_limit-greatest-requires
+greatest_limit-greatest-requires c = record {
+  port_numbers = ports_of_lem c.requires.component_slices;
+  limited = limited (component_of c.requires.component_slices);
+}
 
 pub keep-requires : goal.keep-requires
 keep-requires c = members_of c.requires.component_slices

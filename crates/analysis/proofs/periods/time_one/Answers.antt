@@ -5,8 +5,8 @@ use Rattle.period.specs.ComponentLaws.{limited}
 use Rattle.analysis.proofs.periods.Turns.{members_of, component_of, ports_of_lem, idle, idle_without}
 use Rattle.analysis.proofs.periods.time_one.Goals as goal
 
-pub greatest_limit-greatest-requires : goal.greatest_limit-greatest-requires
-greatest_limit-greatest-requires c = record {
+pub greatest_limit-requires : goal.greatest_limit-requires
+greatest_limit-requires c = record {
   port_numbers = ports_of_lem c.requires.component_slices;
   limited = limited (component_of c.requires.component_slices);
 }

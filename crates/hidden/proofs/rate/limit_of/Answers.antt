@@ -1,8 +1,7 @@
 -- The hidden rate, carried along the connection of the lowest sender.
-use Rattle.std.proofs.Common.{◌∙◌}
 use Rattle.table.specs.Held.{table_in}
 use Rattle.hiding_laws.specs.IsHidden.{hidden_port, sender_port, sender_fits}
-use Rattle.hidden.specs.Limits.{none_lowered, some_lowered}
+use Rattle.hidden.specs.Limits.{limit_none, limit_some}
 use Rattle.hidden.proofs.rate.limit_of.Goals as goal
 
 pub port-hidden-requires : goal.port-hidden-requires
@@ -10,7 +9,7 @@ port-hidden-requires c = let s = c.args.sides.now in (hidden_port (table_in s.ta
 
 pub returns-then-hidden-eq0 : goal.returns-then-hidden-eq0
 returns-then-hidden-eq0 c =
-    let s = c.args.sides.now in none_lowered (table_in s.table.now) s.port c.port-hidden.ensures c.if-hidden-eq0.true
+    let s = c.args.sides.now in limit_none (table_in s.table.now) s.port c.lowest_sender-l.ensures c.port-hidden.ensures c.if-hidden-eq0.true
 
 pub carried_rate-rate-requires-clause-num_fits : goal.carried_rate-rate-requires-clause-num_fits
 carried_rate-rate-requires-clause-num_fits c =
@@ -27,5 +26,5 @@ port-requires c =
 pub returns : goal.returns
 returns c =
     let s = c.args.sides.now in
-    c.then_some.ensures
-    ∙ some_lowered (table_in s.table.now) s.port c.port-hidden.ensures c.lowest_sender-l.ensures c.if-hidden-eq0.false c.carried_rate-rate.ensures.value c.port.ensures c.is_slower.ensures
+    rw c.then_some.ensures
+    (limit_some (table_in s.table.now) s.port c.lowest_sender-l.ensures c.port-hidden.ensures c.if-hidden-eq0.false c.carried_rate-rate.ensures.value c.port.ensures c.is_slower-lowers.ensures)

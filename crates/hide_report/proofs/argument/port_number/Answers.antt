@@ -1,5 +1,5 @@
 -- Each digit in turn.
-use Rattle.std.proofs.Common.{sym, eqb-true, arith}
+use Rattle.std.proofs.Common.{rules, sym, eqb-true, arith}
 use Rattle.std.proofs.lemmas.Bool.{eqb-false}
 use Rattle.hide_report.proofs.Digits.{named_none, named_off, spelled_on, named_all}
 use Rattle.hide_report.proofs.argument.port_number.Goals as goal
@@ -8,12 +8,11 @@ pub returns-then-is_empty : goal.returns-then-is_empty
 returns-then-is_empty c = named_none _ (eqb-true _ _ (sym c.if-is_empty.ensures))
 
 pub returns-then-not-is_ascii_digit : goal.returns-then-not-is_ascii_digit
-returns-then-not-is_ascii_digit c = let digit = c.if-not-is_ascii_digit.ensures in named_off c.loop-c.invariant (omega arith) (sym digit.value)
+returns-then-not-is_ascii_digit c = named_off c.loop-c.invariant (omega arith) (search rules)
 
 pub loop-c-preserved : goal.loop-c-preserved
 loop-c-preserved c =
-    let digit = c.if-not-is_ascii_digit.ensures in
-    spelled_on c.loop-c.invariant (omega arith) (sym digit.value) (omega (arith, c.from.ensures, c.min-number.ensures))
+    spelled_on c.loop-c.invariant (omega arith) (search rules) (omega (arith, c.from.ensures, c.min-number.ensures))
 
 pub returns : goal.returns
 returns c =

@@ -25,20 +25,20 @@ returns-in_default c = record {
 }
 
 pub sums_of-sums-requires : goal.sums_of-sums-requires
-sums_of-sums-requires c = rw c.edges.ensures (searching_sums c.loop-changed.invariant c.in-Err.cycle c.in-Err.ensures.try_result)
+sums_of-sums-requires c = rw c.edges.ensures (searching_sums c.loop-changed.invariant c.in-Err.ensures.try_result)
 
 pub returns-then-sums-clause-search_result : goal.returns-then-sums-clause-search_result
 returns-then-sums-clause-search_result c =
-    searching_blocked c.loop-changed.invariant c.in-Err.cycle c.in-Err.ensures.try_result c.edges.ensures c.sums_of-sums.ensures c.try_at.new.work (omega arith)
+    searching_blocked c.loop-changed.invariant c.in-Err.ensures.try_result c.edges.ensures c.sums_of-sums.ensures c.try_at.new.work (omega arith)
 
 pub overflow_sub-sums : goal.overflow_sub-sums
 overflow_sub-sums c =
-    omega (arith, searching_gains c.loop-changed.invariant c.in-Err.cycle c.in-Err.ensures.try_result c.edges.ensures c.sums_of-sums.ensures (omega arith))
+    omega (arith, searching_gains c.loop-changed.invariant c.in-Err.ensures.try_result c.edges.ensures c.sums_of-sums.ensures (omega arith))
 
 pub loop-changed-smaller : goal.loop-changed-smaller
 loop-changed-smaller c =
-    searching_falls c.loop-changed.invariant c.in-Err.cycle c.in-Err.ensures.try_result c.edges.ensures c.sums_of-sums.ensures (omega arith) c.reduced-period.ensures
+    searching_falls c.loop-changed.invariant c.in-Err.ensures.try_result c.edges.ensures c.sums_of-sums.ensures (omega arith) c.reduced-period.ensures
 
 pub loop-changed-preserved : goal.loop-changed-preserved
 loop-changed-preserved c =
-    searching_next c.loop-changed.invariant c.in-Err.cycle c.in-Err.ensures.try_result c.edges.ensures c.sums_of-sums.ensures (omega arith) c.reduced-period.ensures c.try_at.ensures.work_len_unchanged
+    searching_next c.loop-changed.invariant c.in-Err.ensures.try_result c.edges.ensures c.sums_of-sums.ensures (omega arith) c.reduced-period.ensures c.try_at.ensures.work_len_unchanged

@@ -13,6 +13,6 @@ settle-requires c = record {
   edges_in_bounds = omega (arith, c.requires.work_room, tried_length c.requires c.price.ensures);
 }
 
-pub cycle_back-part-requires : goal.cycle_back-part-requires
-cycle_back-part-requires c =
+pub cycle_back-requires : goal.cycle_back-requires
+cycle_back-requires c =
     tried_restless c.requires c.price.ensures c.in-Err.ensures.rounds_result c.settle.ensures.edges_unchanged (search rules) c.settle.ensures.work_len_unchanged

@@ -6,4 +6,4 @@ use Rattle.results.proofs.blocked.write_blocked.Goals as goal
 
 pub write_connections-requires-clause-in_bounds : goal.write_connections-requires-clause-in_bounds
 write_connections-requires-clause-in_bounds c =
-    simp (length-take, length-drop) (omega (arith, floor_taken c.args.numbers.now c.args.floor.now c.write_floor-at.ensures))
+    simp (length-take, length-drop) (omega (arith, floor_taken c.args.numbers.now _ c.write_floor-at.ensures))

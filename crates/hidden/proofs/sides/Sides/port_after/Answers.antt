@@ -1,15 +1,14 @@
 -- The lowered rate, or the port with that old number.
 use Rattle.std.specs.Prelude.{◌≡◌, ◌-◌, ◌≢◌, Some}
-use Rattle.std.proofs.Common.{arith, ap, ◌∙◌, sym}
+use Rattle.std.proofs.Common.{arith, sym}
 use Rattle.specification.specs.Table.{port_count}
+use Rattle.specification.specs.declared.Port.{Port}
 use Rattle.table.specs.Held.{table_in}
 use Rattle.hiding_laws.specs.PortNumbers.{old_below}
 use Rattle.hiding_laws.specs.IsHidden.{hidden_port}
-use Rattle.hidden.specs.declared.rate.Lowered.{Lowered}
-use Rattle.hidden.specs.OfSides.{lowered_in}
-use Rattle.hidden.specs.Without.{same_some, port_lowered, port_same}
+use Rattle.hidden.specs.Without.{port_lowered, port_same}
 use Rattle.hidden.proofs.sides.Sides.port_after.Goals as goal
-use Rattle.hidden.proofs.sides.Sides.port_after.Goals.{in_default-via-in-Some+else-l-old, in_default-via-in_default}
+use Rattle.hidden.proofs.sides.Sides.port_after.Goals.{in_default-via-in-Some+else-limit-old, in_default-via-in_default}
 
 pub port-requires : goal.port-requires
 port-requires c =
@@ -22,14 +21,14 @@ port-requires c =
 pub returns-in-Some : goal.returns-in-Some
 returns-in-Some c =
     let s = c.args.self.now in
-    port_lowered (table_in s.table.now) s.port s.table.now.well_formed s.parted.can c.args.q c.old_number-old.ensures (sym c.in-Some.is ∙ c.requires.lowered_is) c.if-l-old.true
+    port_lowered (table_in s.table.now) s.port s.table.now.well_formed s.parted.can c.args.q c.old_number-old.ensures c.requires.limit_is (sym c.in-Some.is) c.if-limit-old.true
 
 pub returns-in_default : goal.returns-in_default
 returns-in_default c =
     let s = c.args.self.now in
-    let other : (l : Lowered) → Some l ≡ lowered_in s → l.sender ≢ c.old_number-old.result =
-    λ l e. elim c.in_default.branch [
-      | in_default-via-in-Some+else-l-old w ↦ λ q. w.if-l-old.false (ap (λ (m : Lowered). m.sender) (same_some (sym w.in-Some.is ∙ c.requires.lowered_is ∙ sym e)) ∙ q)
-      | in_default-via-in_default w ↦ λ q. w.in_default.not-Some l (c.requires.lowered_is ∙ sym e)
+    let other : (r : Port) → Some r ≡ c.args.limit.rate → c.args.limit.sender ≢ c.old_number-old.result =
+    λ r e. elim c.in_default.branch [
+      | in_default-via-in-Some+else-limit-old w ↦ w.if-limit-old.false
+      | in_default-via-in_default w ↦ λ q. w.in_default.not-Some r (sym e)
     ] in
-    port_same (table_in s.table.now) s.port s.table.now.well_formed s.parted.can c.args.q c.old_number-old.ensures other c.port.ensures
+    port_same (table_in s.table.now) s.port s.table.now.well_formed s.parted.can c.args.q c.old_number-old.ensures c.requires.limit_is other c.port.ensures

@@ -1,0 +1,2 @@
+-- What the proof of `for_each` uses.
+mod Calls
