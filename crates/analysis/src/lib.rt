@@ -18,7 +18,7 @@ use refusals::Refusal;
 use specification::{Outcome, limits};
 use table::{Table, reading};
 use weights::ratios;
-use weights::ratios::{Discord, Unweighted, Weighted};
+use weights::ratios::{Discord, Weighted};
 
 mod arranged;
 mod periods;
