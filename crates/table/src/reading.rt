@@ -122,7 +122,7 @@ pub fn read_on(
     let by = before.ports - before.named;
     let mut b = before;
     let mut at: usize = 0;
-    // One match: with `map_err` and `?` each record is copied.
+    // One match for a record, the end and a fault: a fault gets the counts of what stands before it.
     loop {
         match record::read_record(s, at, b) {
             Ok(Some((read, next))) => {
